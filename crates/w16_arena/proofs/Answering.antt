@@ -14,13 +14,13 @@ use Rattle.std.specs.FinMap as finmap
 places_before : (ids : List ℕ) (heap : Heap) (q : ℕ) (at : ℕ) → finmap.get (fold absent heap ids).places q ≡ Some at → finmap.get heap.places q ≡ Some at
 places_before [] heap q at e = e
 places_before (id ∷ ids) heap q at e = elim (cases_eq q id) [
-  | inl same ↦ let none : ◌≡◌ {A = Option ℕ} None (Some at) = sym (taken_here heap.places id q same) ∙ places_before ids (absent heap id) q at e in cc
-  | inr other ↦ sym (taken_other heap.places id q other) ∙ places_before ids (absent heap id) q at e
+  | inl same ↦ let none : ◌≡◌ {A = Option ℕ} None (Some at) = sym (taken_here _ id q same) ∙ places_before ids _ q at e in cc
+  | inr other ↦ sym (taken_other _ id q other) ∙ places_before ids _ q at e
 ]
 
 -- and where the one before has none, it has none
 places_none : (ids : List ℕ) (heap : Heap) (q : ℕ) → finmap.get heap.places q ≡ None → finmap.get (fold absent heap ids).places q ≡ None
-places_none ids heap q none = from (finmap.get (fold absent heap ids).places q) refl
+places_none ids heap q none = from _ refl
   where
     from : (p : Option ℕ) → finmap.get (fold absent heap ids).places q ≡ p → p ≡ None
     from None e = refl
@@ -28,11 +28,11 @@ places_none ids heap q none = from (finmap.get (fold absent heap ids).places q) 
 
 -- what stands as it stood after the discards stands as before them
 pub still_before : (heap new : Heap) (k : ℕ) (h : Option ℕ) (slid : Span) (q : ℕ) → IsStill slid (discarded heap k h) new q → IsStill slid heap new q
-still_before heap new k h slid q = from (finmap.get new.places q)
+still_before heap new k h slid q = from _
   where
     from : (p : Option ℕ) → IfSome p (λ at. ((at < slid.from) ⊎ (slid.to ≤ at)) → finmap.get (discarded heap k h).places q ≡ Some at) → IfSome p (λ at. ((at < slid.from) ⊎ (slid.to ≤ at)) → finmap.get heap.places q ≡ Some at)
     from None f = tt
-    from (Some at) f = λ out. places_before (take k (eligible (blocks heap) heap.order h)) heap q at (f out)
+    from (Some at) f = λ out. places_before (take k _) heap q at (f out)
 
 -- what a step leaves of the rest, after a step that kept all but free bytes
 pub rest_after : {X : Type 0} {are_in : List Span → List ℕ → Type 0} {bytes : X → List ℕ} {lenders : X → List GName} {hs : List Span} {old mid new : Table} {x y z : X} → IsSameRange old mid → Leaves are_in bytes lenders hs (IsSameRest mid.lo mid.hi) x y → KeepsRest are_in bytes lenders mid y new z
@@ -41,7 +41,7 @@ rest_after range made rest = let lo = range.lo in let hi = range.hi in record { 
 
 -- each stands where it stands
 pub still_same : (heap : Heap) (slid : Span) (q : ℕ) → IsStill slid heap heap q
-still_same heap slid q = from (finmap.get heap.places q)
+still_same heap slid q = from _
   where
     from : (p : Option ℕ) → IfSome p (λ at. ((at < slid.from) ⊎ (slid.to ≤ at)) → p ≡ Some at)
     from None = tt
@@ -49,18 +49,18 @@ still_same heap slid q = from (finmap.get heap.places q)
 
 -- an object without bytes has no place
 no_place : (heap : Heap) → IsHeap heap → (q : ℕ) (o : Object) → object_at heap q ≡ Some (record o { bytes = None }) → finmap.get heap.places q ≡ None
-no_place heap is q o there = from (finmap.get heap.places q) refl
+no_place heap is q o there = from _ refl
   where
     from : (p : Option ℕ) → finmap.get heap.places q ≡ p → p ≡ None
     from None e = refl
     from (Some at) e =
-        let some : finmap.contains_key heap.places q ≡ true = ap is_some e in
-        let none : is_some (bytes_at heap q) ≡ false = ap (λ (p : Option Object). is_some (elim p as (λ _. Option (List ℕ)) [ Some o ↦ o.bytes | None ↦ None ])) there in
+        let some = ap is_some e in
+        let none = ap (λ p. is_some (elim p as (λ _. Option (List ℕ)) [ Some o ↦ o.bytes | None ↦ None ])) there in
         absurd (false≢true (sym none ∙ sym (is.at_bytes q) ∙ some))
 
 -- so a discarded one has none
 pub gone : (old new : Heap) → IsHeap new → (q : ℕ) → IsSomeAnd (object_at old q) (λ o. (o.kind ≡ Discardable) × (o.locks ≡ 0) × (is_some o.bytes ≡ true) × (object_at new q ≡ Some (record o { bytes = None }))) → finmap.get new.places q ≡ None
-gone old new is q = from (object_at old q)
+gone old new is q = from _
   where
     from : (p : Option Object) → IsSomeAnd p (λ o. (o.kind ≡ Discardable) × (o.locks ≡ 0) × (is_some o.bytes ≡ true) × (object_at new q ≡ Some (record o { bytes = None }))) → finmap.get new.places q ≡ None
     from None f = absurd f
@@ -84,8 +84,8 @@ room_of t sound memory inside =
 room_about : (t : Table) → IsSound t → (memory : List ℕ) → t.hi ≤ length memory → (id : ℕ) → block_with t.blocks id ≡ None → room_for (snapshot t.lo t.hi (blocks (heap_in t memory)) t.order) 0 (Some id) ≡ room t.lo t.hi t.blocks
 room_about t sound memory inside id none =
     let parts : AreParts t.entries (layout_in t) t.order memory = record { sound = sound; ids = refl; high = inside } in
-    ap (room t.lo t.hi) (none_out id (blocks (heap_in t memory)) (Each-from (λ x. x.id ≢ id) (blocks (heap_in t memory)) (λ x m e.
-    let some : ◌≡◌ {A = Option Block} None (Some x) = sym none ∙ ap (block_with t.blocks) (sym e) ∙ listed_with parts x (is_listed parts x m) in cc))) ∙ listed_room parts
+    ap (room t.lo t.hi) (none_out id _ (Each-from (λ x. x.id ≢ id) (blocks (heap_in t memory)) (λ x m e.
+    let some : ◌≡◌ {A = Option Block} None (Some x) = sym none ∙ ap (block_with _) (sym e) ∙ listed_with parts x (is_listed parts x m) in cc))) ∙ listed_room parts
 
 module _ (old : ArenaState) (sound : IsSound old.table) (memory : List ℕ) (inside : old.table.hi ≤ length memory) where
   abbrev t : Table

@@ -13,7 +13,7 @@ unpinned false h k = false≢true h
 pub same_moved : (low : ℕ) (layout : Layout) (memory : List ℕ) → C.IsOrdered layout → C.AreMoved low low layout memory layout memory
 same_moved low layout memory ordered = record {
   same = refl;
-  blocks = two_same (Slides low low memory memory) (λ b. record { same = refl; place = inl refl; bytes = refl }) layout.blocks;
+  blocks = two_same _ (λ b. record { same = refl; place = inl refl; bytes = refl }) _;
   unpinned = λ lt. absurd (omega arith);
   ordered = ordered;
   size = refl;

@@ -7,7 +7,7 @@ use Rattle.std.proofs.Common.{max, min, lt-ltb, le-ltb}
 hole_open : (a end : ℕ) (bs : List Block) → slice_get bs (rank a bs) ≡ None → hole_after end bs a ≡ end - a
 hole_open a end [] e = refl
 hole_open a end (x ∷ xs) e = elim (cases_lt x.at a) [
-  | inl below ↦ let rest : slice_get xs (rank a xs) ≡ None = rw (lt-ltb x.at a below) at e in rw (lt-leb a x.at below) (hole_open a end xs rest)
+  | inl below ↦ let rest = rw (lt-ltb x.at a below) at e in rw (lt-leb a x.at below) (hole_open a end xs rest)
   | inr from ↦ let some : ◌≡◌ {A = Option Block} (Some x) None = rw (le-ltb x.at a from) at e in cc
 ]
 
@@ -21,11 +21,11 @@ first_above lo hi end a m (x ∷ xs) laid le up =
 hole_closed : (lo hi end a : ℕ) (y : Block) (bs : List Block) → IsLaid lo hi bs → hi ≤ end → slice_get bs (rank a bs) ≡ Some y → hole_after end bs a ≡ y.at - a
 hole_closed lo hi end a y [] laid le e = absurd (false≢true (ap is_some e))
 hole_closed lo hi end a y (x ∷ xs) laid le e = elim (cases_lt x.at a) [
-  | inl below ↦ let rest : slice_get xs (rank a xs) ≡ Some y = rw (lt-ltb x.at a below) at e in rw (lt-leb a x.at below) (hole_closed (block_end x) hi end a y xs laid.2 le rest)
+  | inl below ↦ let rest = rw (lt-ltb x.at a below) at e in rw (lt-leb a x.at below) (hole_closed (block_end x) hi end a y xs laid.2 le rest)
   | inr from ↦
       let some : Some x ≡ Some y = rw (le-ltb x.at a from) at e in let same : x ≡ y = cc in
-      let place = ap (λ (z : Block). z.at) same in let up = laid_up (block_end x) hi xs laid.2 in
-      let first = first_above (block_end x) hi end a x.at xs laid.2 (omega arith) (omega arith) in
+      let place = ap (λ z. z.at) same in let up = laid_up _ hi xs laid.2 in
+      let first = first_above _ hi end a x.at xs laid.2 (omega arith) (omega arith) in
       rw (le-leb a x.at from) (omega arith)
 ]
   where

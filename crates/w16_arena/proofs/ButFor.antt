@@ -55,17 +55,17 @@ module _ (R : Block → Block → Type 0) (ids : (b c : Block) → R b c → c.i
       ]
 
 pub slides_ids : (low high : ℕ) (memory after : List ℕ) (b c : Block) → C.Slides low high memory after b c → c.id ≡ b.id
-slides_ids low high memory after b c s = ap (λ (x : Block). x.id) s.same
+slides_ids low high memory after b c s = ap (λ x. x.id) s.same
 
 -- blocks that slid, without one of them
 pub moved_but_for : {low high : ℕ} {old : Layout} {memory : List ℕ} {new : Layout} {after : List ℕ} (id : ℕ) → C.AreMoved low high old memory new after → C.AreMoved low high (but_for id old) memory (but_for id new) after
 moved_but_for {low} {high} {old} {memory} {new} {after} id moved = record {
   same = ap (λ (l : Layout). record l { blocks = all_but id new.blocks }) moved.same;
-  blocks = two_but (C.Slides low high memory after) (slides_ids low high memory after) id old.blocks new.blocks moved.blocks;
+  blocks = two_but _ (slides_ids low high memory after) id _ _ moved.blocks;
   unpinned = λ lt. let clear = moved.unpinned lt in record {
     above = clear.above;
     below = clear.below;
-    misses = C.All-from_Each _ (all_but id old.blocks) (All-all_but (λ x. IsTrue (C.is_pinned x) → Misses x.at x.size low high) id old.blocks (C.Each-from_All _ old.blocks clear.misses));
+    misses = C.All-from_Each _ _ (All-all_but (λ x. IsTrue (C.is_pinned x) → Misses x.at x.size low high) id _ (C.Each-from_All _ _ clear.misses));
   };
   ordered = C.ordered_without (Some id) new moved.ordered;
   size = moved.size;
@@ -74,7 +74,7 @@ moved_but_for {low} {high} {old} {memory} {new} {after} id moved = record {
 
 -- what is free is free of the others too
 pub free_but : {l : Layout} (id n at : ℕ) → AreFreeBytes l n at → AreFreeBytes (but_for id l) n at
-free_but {l} id n at free = record { above = free.above; below = free.below; grained = free.grained; misses = All-all_but (λ x. Misses x.at x.size at (at + n)) id l.blocks free.misses }
+free_but {l} id n at free = record { above = free.above; below = free.below; grained = free.grained; misses = All-all_but (λ x. Misses x.at x.size at _) id _ free.misses }
 
 -- An object's block.
 module _ {l : Layout} (ordered : C.IsOrdered l) (x : Block) (known : block_with l.blocks x.id ≡ Some x) where

@@ -35,7 +35,7 @@ changes_none id block layout is = record {
   hi = refl;
   grain = refl;
   blocks = λ q. elim (eqb_tells id q) [
-    | inl same ↦ rw same.0 (ap (block_with layout.blocks) (sym same.1) ∙ is)
+    | inl same ↦ rw same.0 (ap (block_with _) (sym same.1) ∙ is)
     | inr other ↦ rw other.0 refl
   ];
 }

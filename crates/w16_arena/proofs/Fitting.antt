@@ -49,8 +49,8 @@ module _ (l : C.Layout) (b : Block) (known : C.block_with l.blocks b.id ≡ Some
 pub fits_free : (l : C.Layout) (x : Block) → C.block_with l.blocks x.id ≡ Some x → C.IsOrdered l → (n at : ℕ) → 0 < n → IsMultiple l.grain n → C.AreFreeBytes (C.but_for x.id l) n at → FitsFor l (record x { at = at; size = n })
 fits_free l x known ordered n at some rounded free = record {
   id = id_known l x known ordered;
-  free = C.others_differ x.id l.blocks;
+  free = C.others_differ x.id _;
   inside = (free.above, some, free.below);
-  apart = C.Each-map (λ c. C.Misses c.at c.size at (at + n)) (λ c. IsApart (record x { at = at; size = n }) c) (λ c m. elim m [ inl before ↦ inr before | inr behind ↦ inl behind ]) (all_but x.id l.blocks) free.misses;
+  apart = C.Each-map (λ c. C.Misses c.at c.size at _) (λ c. IsApart (record x { at = at; size = n }) c) (λ c m. elim m [ inl before ↦ inr before | inr behind ↦ inl behind ]) _ free.misses;
   grained = (free.grained, rounded);
 }

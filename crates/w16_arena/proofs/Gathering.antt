@@ -16,7 +16,7 @@ loose_grains g [] a b all = (0, omega arith)
 loose_grains g (x ∷ xs) a b all = subst (IsMultiple g) (sym (C.loose_one x xs a b)) (turn (C.is_loose x && C.begins_in a b x) (loose_grains g xs a b all.1))
   where
     turn : (t : Bool) → IsMultiple g (loose_bytes xs a b) → IsMultiple g (cond t x.size 0 + loose_bytes xs a b)
-    turn true r = sum_grains g x.size (loose_bytes xs a b) all.0.1 r
+    turn true r = sum_grains g x.size _ all.0.1 r
     turn false r = subst (IsMultiple g) (let e : loose_bytes xs a b ≡ 0 + loose_bytes xs a b = omega arith in e) r
 
 module _ {l : Layout} {n : ℕ} {gap : Gap} (ordered : C.IsOrdered l) (has : C.HasRoom l n gap) where

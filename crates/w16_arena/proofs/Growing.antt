@@ -9,14 +9,14 @@ use Rattle.w16_arena.proofs.Sized as sized
 -- a discard of others leaves an object
 absents_at : (ids : List ℕ) (heap : Heap) (q : ℕ) → (C.Member q ids → ⊥) → object_at (fold C.absent heap ids) q ≡ object_at heap q
 absents_at [] heap q out = refl
-absents_at (id ∷ ids) heap q out = absents_at ids (C.absent heap id) q (λ m. out (inr m)) ∙ C.get-update_other heap.objects id (λ o. record o { bytes = None }) q (λ e. out (inl e))
+absents_at (id ∷ ids) heap q out = absents_at ids _ q (λ m. out (inr m)) ∙ C.get-update_other _ id (λ o. record o { bytes = None }) q (λ e. out (inl e))
 
 -- a block's id is one
 pub entry_below : (t : Table) → IsSound t → (b : Block) → block_with t.blocks b.id ≡ Some b → b.id < length t.entries
 entry_below t sound b known =
     let high : t.hi ≤ length {A = ℕ} (C.replicate t.hi 0) = (let e = C.length-replicate {A = ℕ} t.hi 0 in omega arith) in
-    let e = sized.entry_known t sound (C.replicate t.hi 0) high b known in
-    in_list t.entries b.id e.0 e.1
+    let e = sized.entry_known t sound _ high b known in
+    in_list _ b.id e.0 e.1
 
 -- the room with an object left out
 room_left : (t : Table) → IsSound t → (memory : List ℕ) → t.hi ≤ length memory → (id : ℕ) → room_for (snapshot t.lo t.hi (blocks (heap_in t memory)) t.order) 0 (Some id) ≡ room t.lo t.hi (all_but id t.blocks)

@@ -20,14 +20,14 @@ pub has_grown : (n : ℕ) (b : Block) (old mid new : Layout) (memory mid_memory 
     → p.moved ≡ moved_between (all_but b.id old.blocks) (all_but b.id mid.blocks) + cond (p.at == b.at) 0 b.size → HasGrown n b old memory p new after
 has_grown n b old mid new memory mid_memory after p moved free came value laid others long small count =
     let x : Block = record b { at = p.at; size = n } in
-    let but : but_for b.id mid ≡ but_for b.id new = sym (but_for_same mid x value) in
+    let but = sym (but_for_same mid x value) in
     record {
       value = is_placed mid x value;
       laid = laid;
       bytes = came;
-      slid = subst (λ (m : Layout). AreMoved p.slid.from p.slid.to (but_for b.id old) memory m after) but (moved_kept p.slid.from p.slid.to (but_for b.id old) (but_for b.id mid) memory mid_memory after moved others long small);
-      free = subst (λ (m : Layout). AreFreeBytes m n p.at) but free;
-      moved = count ∙ ap (λ (bs : List Block). moved_between (all_but b.id old.blocks) bs + cond (p.at == b.at) 0 b.size) (sym (but_same mid x value));
+      slid = subst (λ m. AreMoved p.slid.from p.slid.to (but_for b.id old) memory m after) but (moved_kept _ _ _ _ memory _ after moved others long small);
+      free = subst (λ m. AreFreeBytes m n p.at) but free;
+      moved = count ∙ ap (λ bs. moved_between (all_but b.id old.blocks) bs + cond (p.at == b.at) 0 b.size) (sym (but_same mid x value));
     }
 
 -- the same of one that got them where it stands
@@ -35,7 +35,7 @@ pub grown_there : (n : ℕ) (b : Block) (old mid new : Layout) (memory mid_memor
     → new ≡ record mid { blocks = replaced (record b { at = p.at; size = n }) mid.blocks } → IsOrdered new → ((m : ℕ) → m ≤ b.size → m ≤ n → part after p.at m ≡ part mid_memory p.at m)
     → contents after (all_but b.id mid.blocks) ≡ contents mid_memory (all_but b.id mid.blocks) → length after ≡ length mid_memory → All (λ b. b < 256) after → HasGrown n b old memory p new after
 grown_there n b old mid new memory mid_memory after p way more value laid own others long small =
-    has_grown n b old mid new memory mid_memory after p way.slid way.free (own b.size (omega arith) (omega arith) ∙ way.bytes) value laid others long small way.moved
+    has_grown n b old mid new memory _ after p way.slid way.free (own b.size (omega arith) (omega arith) ∙ way.bytes) value laid others long small way.moved
 
 -- A block and free bytes: it has none of them, so it doesn't stand there.
 module _ {l : Layout} (ordered : IsOrdered l) (x : Block) (known : block_with l.blocks x.id ≡ Some x) (n at : ℕ) (free : AreFreeBytes l n at) where

@@ -10,7 +10,7 @@ found_member p [] s e = cc
 found_member p (x ∷ ss) s e =
     elim (p x) as (λ b. p x ≡ b → cond b (Some x) (find p ss) ≡ Some s → Member s (x ∷ ss) × IsTrue (p s)) [
       | true ↦ λ t h. let same : x ≡ s = cc in (inl (sym same), subst (λ (y : Span). IsTrue (p y)) same t)
-      | false ↦ λ t h. let r : Member s ss × IsTrue (p s) = found_member p ss s h in (inr r.0, r.1)
+      | false ↦ λ t h. let r = found_member p ss s h in (inr r.0, r.1)
     ] refl e
 
 none_passes : (p : Span → Bool) (ss : List Span) → find p ss ≡ None → Each (λ s. p s ≡ false) ss

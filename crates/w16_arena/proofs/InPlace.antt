@@ -91,6 +91,6 @@ pub not_extended : {entries : List (Option Entry)} {layout : Layout} {uses : Use
     (b : Block) (known : block_with layout.blocks b.id ≡ Some b) (n : ℕ) (memory : List ℕ) (inside : layout.hi ≤ length memory) → C.IsMultiple layout.grain n → (options : C.RoomOptions) → b.size < n → (C.holds_still b.hold && not options.may_move) ≡ true
     → b.size + hole_after layout.hi layout.blocks (block_end b) < n → C.Reallocates (heap_of entries layout uses.ids memory) b.id n options false (heap_of entries layout uses.ids memory)
 not_extended {entries} {layout} {uses} kept b known n memory inside rounded options more keeps short =
-    let t : Table = table_of entries layout uses.ids in
+    let t = table_of entries layout _ in
     sized.doesnt_extend t kept.sound memory inside b known n (omega arith) rounded options more keeps
-    (sized.fits_in_heap t kept.sound memory inside b known n ∙ C.lt-leb n (b.size + hole_after layout.hi layout.blocks (block_end b)) short)
+    (sized.fits_in_heap t kept.sound memory inside b known n ∙ C.lt-leb n _ short)

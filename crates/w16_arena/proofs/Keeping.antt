@@ -104,7 +104,7 @@ pub leaves_cleared : {X : Type 0} {are_in : List Span → List ℕ → Type 0} {
     → ((hs : List Span) (old new : List ℕ) → are_in hs old → C.AreSameIn hs old new → are_in hs new) → Leaves are_in bytes lenders hs (IsSameRest lo hi) x y
     → IsSameRest at end (bytes y) (bytes z) → lenders z ≡ lenders y → lo ≤ at → end ≤ hi → IsUsed at end hs → Leaves are_in bytes lenders hs (IsSameRest lo hi) x z
 leaves_cleared {X} {are_in} {bytes} {lenders} {hs} {lo} {hi} at end {x} {y} {z} stay made cleared loans below above used = record {
-  kept = stay hs (bytes y) (bytes z) made.kept (same_in at end hs (bytes y) (bytes z) cleared.long cleared.outside used);
+  kept = stay hs (bytes y) _ made.kept (same_in at end hs _ _ cleared.long cleared.outside used);
   bytes = C.rest_more made.bytes cleared below above;
   loans = loans ∙ made.loans;
 }
@@ -121,5 +121,5 @@ moved_kept low high old new memory mid after moved same long small = record {
 
 -- the bytes of a block that was added are no hole's
 pub used_placed : (l new : Layout) (b : Block) → new ≡ record l { blocks = C.placed b l.blocks } → C.IsOrdered new → IsUsed b.at (block_end b) (holes_of new)
-used_placed l new b is ordered = (C.All-first (λ c. IsUsed c.at (block_end c) (holes_of new)) b l.blocks
-    (subst (C.AllByRecursion (λ c. IsUsed c.at (block_end c) (holes_of new))) (ap (λ (x : Layout). x.blocks) is) (C.used_each new.lo new.hi new.blocks ordered.laid))).0
+used_placed l new b is ordered = (C.All-first (λ c. IsUsed c.at (block_end c) (holes_of new)) b _
+    (subst (C.AllByRecursion (λ c. IsUsed c.at (block_end c) (holes_of new))) (ap (λ x. x.blocks) is) (C.used_each new.lo new.hi _ ordered.laid))).0

@@ -78,4 +78,4 @@ module _ (heap : Heap) (id n : ℕ) (options : RoomOptions) (s : Stretch) (told 
 
 -- a block's id is one
 pub below_cap : {entries : List (Option Entry)} {layout : C.Layout} {uses : Uses} {gap_rooms room : ℕ} → ArenaInvariant entries layout uses gap_rooms room → (b : Block) → block_with layout.blocks b.id ≡ Some b → b.id < layout.cap
-below_cap {entries} {layout} {uses} kept b there = let few = entry_below (C.table_of entries layout uses.ids) kept.sound b there in let same = kept.ids in omega arith
+below_cap {entries} {layout} {uses} kept b there = let few = entry_below (C.table_of entries layout _) kept.sound b there in let same = kept.ids in omega arith

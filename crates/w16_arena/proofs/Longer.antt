@@ -7,7 +7,7 @@ use proofs.Cleared.{Makes, makes, fresh}
 -- a part by two
 part_two : (xs : List ℕ) (at k m : ℕ) → part xs at (k + m) ≡ part xs at k ++ part xs (at + k) m
 part_two xs at k m =
-    sym (C.take-append-drop k (take (k + m) (drop at xs)))
+    sym (C.take-append-drop k _)
     ∙ (λ i. C.take-take k (k + m) (drop at xs) (omega arith) i ++ C.drop-take k m (drop at xs) i)
     ∙ ap (λ ys. take k (drop at xs) ++ take m ys) (C.drop-drop k at xs)
 

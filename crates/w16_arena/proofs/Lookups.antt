@@ -10,7 +10,7 @@ use Rattle.std.specs.FinMap as finmap
 pub in_list : (entries : List (Option Entry)) (id : ℕ) (e : Entry) → get_or entries id None ≡ Some e → id < length entries
 in_list [] id e h = cc
 in_list (d ∷ es) zero e h = omega arith
-in_list (d ∷ es) (suc id) e h = let rest : id < length es = in_list es id e h in omega arith
+in_list (d ∷ es) (suc id) e h = let rest = in_list es id e h in omega arith
 
 -- past the end there is none
 pub past_end : (entries : List (Option Entry)) (q : ℕ) → length entries ≤ q → get_or entries q None ≡ None
@@ -22,8 +22,8 @@ past_end (e ∷ es) (suc q) le = past_end es q (omega arith)
 pub same_heap : (g h : Heap) → g.lo ≡ h.lo → g.hi ≡ h.hi → g.grain ≡ h.grain → g.order ≡ h.order
     → ((q : ℕ) → object_at g q ≡ object_at h q) → ((q : ℕ) → finmap.get g.places q ≡ finmap.get h.places q) → g ≡ h
 same_heap g h lo hi grain order objects places =
-    let o : g.objects ≡ h.objects = C.same_map C.nat_cmp_total C.nat_cmp-IsAntisymmetric g.objects h.objects objects in
-    let p : g.places ≡ h.places = C.same_map C.nat_cmp_total C.nat_cmp-IsAntisymmetric g.places h.places places in
+    let o = C.same_map C.nat_cmp_total C.nat_cmp-IsAntisymmetric _ _ objects in
+    let p = C.same_map C.nat_cmp_total C.nat_cmp-IsAntisymmetric _ _ places in
     λ i. record { lo = lo i; hi = hi i; grain = grain i; objects = o i; places = p i; order = order i }
 
 -- A table is sound by what it has at each id.
@@ -45,8 +45,8 @@ pub record IsArranged (layout : Layout) : Type 0 where
 pub ordered_arranged : (layout : Layout) → C.IsOrdered layout → IsArranged layout
 ordered_arranged layout ordered = record {
   laid = ordered.laid;
-  ids = C.AllPairs-from_EachPair (λ x y. x.id ≡ y.id → ⊥) layout.blocks (named_pairs layout.cap layout.blocks ordered.named);
-  grained = C.All-from_Each (λ x. IsMultiple layout.grain x.at × IsMultiple layout.grain x.size) layout.blocks ordered.grained;
+  ids = C.AllPairs-from_EachPair (λ x y. x.id ≡ y.id → ⊥) _ (named_pairs layout.cap _ ordered.named);
+  grained = C.All-from_Each (λ x. IsMultiple layout.grain x.at × IsMultiple layout.grain x.size) _ ordered.grained;
   low_grained = ordered.from;
 }
 
@@ -67,8 +67,8 @@ sound_of entries layout order arranged holds listed counted = record {
   table = record {
     laid = arranged.laid;
     ids = arranged.ids;
-    holds = C.All-from_Each (λ x. IsSomeAnd (get_or entries x.id None) (λ e. x.hold ≡ hold_of_entry e)) layout.blocks
-        (C.Each-from (λ x. IsSomeAnd (get_or entries x.id None) (λ e. x.hold ≡ hold_of_entry e)) layout.blocks (λ x m. holds x.id x (C.with_member layout.blocks x (C.EachPair-from_AllPairs (λ x y. x.id ≡ y.id → ⊥) layout.blocks arranged.ids) m)));
+    holds = C.All-from_Each (λ x. IsSomeAnd _ (λ e. x.hold ≡ hold_of_entry e)) _
+        (C.Each-from (λ x. IsSomeAnd _ (λ e. x.hold ≡ hold_of_entry e)) _ (λ x m. holds x.id x (C.with_member _ x (C.EachPair-from_AllPairs (λ x y. x.id ≡ y.id → ⊥) _ arranged.ids) m)));
   };
   grained = arranged.grained;
   low_grained = arranged.low_grained;
@@ -80,8 +80,8 @@ sound_of entries layout order arranged holds listed counted = record {
 -- what a sound table has at each id
 pub holds_at : (entries : List (Option Entry)) (layout : Layout) (order : List ℕ) → IsSound (table_of entries layout order) → (q : ℕ) (x : Block) → block_with layout.blocks q ≡ Some x → IsSomeAnd (get_or entries q None) (λ e. x.hold ≡ hold_of_entry e)
 holds_at entries layout order sound q x e =
-    let m = C.member_with layout.blocks q x e in
-    subst (λ k. IsSomeAnd (get_or entries k None) (λ d. x.hold ≡ hold_of_entry d)) m.1 (C.Each-at (λ (x : Block). IsSomeAnd (get_or entries x.id None) (λ d. x.hold ≡ hold_of_entry d)) layout.blocks (C.Each-from_All _ layout.blocks sound.table.holds) x m.0)
+    let m = C.member_with _ q x e in
+    subst (λ k. IsSomeAnd (get_or entries k None) (λ d. x.hold ≡ hold_of_entry d)) m.1 (C.Each-at (λ x. IsSomeAnd (get_or entries x.id None) (λ d. x.hold ≡ hold_of_entry d)) _ (C.Each-from_All _ _ sound.table.holds) x m.0)
 
 module _ {entries : List (Option Entry)} {layout : Layout} {order memory : List ℕ} (parts : AreParts entries layout order memory) where
   whole : layout.hi ≤ length memory

@@ -8,10 +8,10 @@ use Rattle.std.specs.FinMap as finmap
 -- no order of the blocks changes the bytes of those that pass a test
 pub bytes_by : (p : Block → Bool) (xs : List Block) → sum_by (λ x. x.size) (filter p xs) ≡ sum_by (λ x. cond (p x) x.size 0) xs
 bytes_by p [] = refl
-bytes_by p (x ∷ xs) = omega (arith, sum_filter p x xs, bytes_by p xs, C.sum_by-cons (λ (y : Block). cond (p y) y.size 0) x xs)
+bytes_by p (x ∷ xs) = omega (arith, sum_filter p x xs, bytes_by p xs, C.sum_by-cons (λ y. cond (p y) y.size 0) x xs)
 
 pub bytes_permutation : (p : Block → Bool) (xs ys : List Block) → C.IsPermutation xs ys → sum_by (λ x. x.size) (filter p ys) ≡ sum_by (λ x. x.size) (filter p xs)
-bytes_permutation p xs ys perm = bytes_by p ys ∙ C.sum_by-IsPermutation (λ (x : Block). cond (p x) x.size 0) xs ys perm ∙ sym (bytes_by p xs)
+bytes_permutation p xs ys perm = bytes_by p ys ∙ C.sum_by-IsPermutation (λ x. cond (p x) x.size 0) xs ys perm ∙ sym (bytes_by p xs)
 
 -- blocks by address have no more bytes than their range
 laid_bytes : (p : Block → Bool) (lo hi : ℕ) (bs : List Block) → C.IsLaid lo hi bs → lo + sum_by (λ x. x.size) (filter p bs) ≤ hi

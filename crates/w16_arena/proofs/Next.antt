@@ -10,11 +10,11 @@ IsNext from bs found = MatchOption found (Each (λ c. c.at < from) bs) (λ b. C.
 pub next_is : (lo hi from : ℕ) (bs : List Block) → C.IsLaid lo hi bs → IsNext from bs (slice_get bs (rank from bs))
 next_is lo hi from [] laid = tt
 next_is lo hi from (b ∷ bs) laid = elim (C.cases_lt b.at from) [
-  | inl below ↦ rw (C.lt-ltb b.at from below) (more below (slice_get bs (rank from bs)) (next_is (block_end b) hi from bs laid.2))
+  | inl below ↦ rw (C.lt-ltb b.at from below) (more below (slice_get bs _) (next_is (block_end b) hi from bs laid.2))
   | inr above ↦ rw (C.le-ltb b.at from above) (
     inl refl,
     above,
-    (inr (inl refl), let some = laid.1 in C.Each-map (λ c. (block_end b ≤ c.at) × (0 < c.size) × (block_end c ≤ hi)) (λ c. (c.at < from) ⊎ ((c ≡ b) ⊎ (b.at < c.at))) (λ c lies. let after = lies.0 in inr (inr (omega arith))) bs (C.laid_each (block_end b) hi bs laid.2)),
+    (inr (inl refl), let some = laid.1 in C.Each-map (λ c. (block_end b ≤ c.at) × (0 < c.size) × (block_end c ≤ hi)) (λ c. (c.at < from) ⊎ ((c ≡ b) ⊎ (b.at < c.at))) (λ c lies. let after = lies.0 in inr (inr (omega arith))) bs (C.laid_each _ hi bs laid.2)),
   )
 ]
   where
@@ -24,7 +24,7 @@ next_is lo hi from (b ∷ bs) laid = elim (C.cases_lt b.at from) [
 
 -- the same of each id's block
 each_block : (bs : List Block) (P : Block → Type 0) → Each P bs → (q : ℕ) → IfSome (block_with bs q) P
-each_block bs P all q = from (block_with bs q) refl
+each_block bs P all q = from _ refl
   where
     from : (b : Option Block) → block_with bs q ≡ b → IfSome b P
     from None e = tt

@@ -25,7 +25,7 @@ laid_gathered low high from top (b ∷ bs) laid le fits order =
     let start = laid.0 in
     elim (C.cases_lt b.at low) [
       | inl lt ↦ rw (C.lt-ltb b.at low lt) (start, laid.1, laid_gathered low high (block_end b) top bs laid.2 (elim fits.0 [ inl end ↦ end | inr other ↦ elim other [ inl above ↦ absurd (omega arith) | inr inside ↦ let from_low = inside.0 in absurd (omega arith) ] ]) fits.1 order)
-      | inr ge ↦ rw (C.le-ltb b.at low ge) (C.IsLaid-from from low top (C.packed high low (b ∷ bs)) le (laid_packed high b.at top low (b ∷ bs) (omega arith, laid.1, laid.2) ge))
+      | inr ge ↦ rw (C.le-ltb b.at low ge) (C.IsLaid-from from low top _ le (laid_packed high b.at top low (b ∷ bs) (omega arith, laid.1, laid.2) ge))
     ]
 
 -- where raised blocks stand
@@ -50,14 +50,14 @@ loose_but cap a e x [] named known loose le lt = cc
 loose_but cap a e x (b ∷ bs) named known loose le lt = elim (C.eqb_tells b.id x.id) [
   | inl same ↦
       let f : Some b ≡ Some x = sym (C.with_same x.id b bs same.0) ∙ known in let is : b ≡ x = cc in
-      let place = ap (λ (c : Block). c.at) is in let size = ap (λ (c : Block). c.size) is in
-      let rest : all_but x.id (b ∷ bs) ≡ bs = C.all_but_same x.id b bs same.0 ∙ C.all_but_absent x.id bs (C.rest_differs cap x.id b bs same.1 named) in
-      let left = ap (λ (cs : List Block). loose_bytes cs a e) rest in
-      let one = C.loose_here b bs a e (ap (λ (c : Block). c.hold) is ∙ loose) (omega arith) (omega arith) in
+      let place = ap (λ c. c.at) is in let size = ap (λ c. c.size) is in
+      let rest = C.all_but_same x.id b bs same.0 ∙ C.all_but_absent x.id bs (C.rest_differs cap x.id b bs same.1 named) in
+      let left = ap (λ cs. loose_bytes cs a e) rest in
+      let one = C.loose_here b bs a e (ap (λ c. c.hold) is ∙ loose) (omega arith) (omega arith) in
       omega (arith, left, one, size)
   | inr other ↦
       let rest = loose_but cap a e x bs named.2 (sym (C.with_other x.id b bs other.0) ∙ known) loose le lt in
-      let left = ap (λ (cs : List Block). loose_bytes cs a e) (C.all_but_other x.id b bs other.0) in
+      let left = ap (λ cs. loose_bytes cs a e) (C.all_but_other x.id b bs other.0) in
       let one = C.loose_one b bs a e in let two = C.loose_one b (all_but x.id bs) a e in
       omega (arith, rest, left, one, two)
 ]

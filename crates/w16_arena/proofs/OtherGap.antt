@@ -14,11 +14,11 @@ loose_outside cap a e x [] named known out = cc
 loose_outside cap a e x (b ∷ bs) named known out = elim (C.eqb_tells b.id x.id) [
   | inl same ↦
       let f : Some b ≡ Some x = sym (C.with_same x.id b bs same.0) ∙ known in let is : b ≡ x = cc in
-      let rest : all_but x.id (b ∷ bs) ≡ bs = C.all_but_same x.id b bs same.0 ∙ C.all_but_absent x.id bs (C.rest_differs cap x.id b bs same.1 named) in
-      C.loose_skip b bs a e (subst (λ (c : Block). (c.at < a) ⊎ (e ≤ c.at)) (sym is) out) ∙ ap (λ (cs : List Block). loose_bytes cs a e) (sym rest)
+      let rest = C.all_but_same x.id b bs same.0 ∙ C.all_but_absent x.id bs (C.rest_differs cap x.id b bs same.1 named) in
+      C.loose_skip b bs a e (subst (λ c. (c.at < a) ⊎ (e ≤ c.at)) (sym is) out) ∙ ap (λ cs. loose_bytes cs a e) (sym rest)
   | inr other ↦
       let rest = loose_outside cap a e x bs named.2 (sym (C.with_other x.id b bs other.0) ∙ known) out in
-      let left = ap (λ (cs : List Block). loose_bytes cs a e) (C.all_but_other x.id b bs other.0) in
+      let left = ap (λ cs. loose_bytes cs a e) (C.all_but_other x.id b bs other.0) in
       let one = C.loose_one b bs a e in let two = C.loose_one b (all_but x.id bs) a e in
       omega (arith, rest, left, one, two)
 ]

@@ -25,7 +25,7 @@ two_then R S T f (a ∷ zs) (b ∷ bs) (c ∷ cs) r s = (f a b c r.0 s.0, two_th
 pub two_member : (R : Block → Block → Type 0) (bs cs : List Block) → EachTwo R bs cs → (b : Block) → C.Member b bs → (c : Block) × C.Member c cs × R b c
 two_member R [] cs two b m = absurd m
 two_member R (x ∷ bs) [] two b m = absurd two
-two_member R (x ∷ bs) (y ∷ cs) two b (inl e) = (y, inl refl, subst (λ (z : Block). R z y) (sym e) two.0)
+two_member R (x ∷ bs) (y ∷ cs) two b (inl e) = (y, inl refl, subst (λ z. R z y) (sym e) two.0)
 two_member R (x ∷ bs) (y ∷ cs) two b (inr m) = let r = two_member R bs cs two.1 b m in (r.0, inr r.1, r.2)
 
 -- the same of each id's block
@@ -40,10 +40,10 @@ with_two R ids [] [] two q = tt
 with_two R ids [] (c ∷ cs) two q = absurd two
 with_two R ids (b ∷ bs) [] two q = absurd two
 with_two R ids (b ∷ bs) (c ∷ cs) two q =
-    let same : c.id ≡ b.id = ids b c two.0 in
+    let same = ids b c two.0 in
     elim (C.eqb_tells b.id q) [
-      | inl hit ↦ let other : eqb c.id q ≡ true = ap (λ k. eqb k q) same ∙ hit.0 in rw (hit.0, other) two.0
-      | inr miss ↦ let other : eqb c.id q ≡ false = ap (λ k. eqb k q) same ∙ miss.0 in rw (miss.0, other) (with_two R ids bs cs two.1 q)
+      | inl hit ↦ let other = ap (λ k. eqb k q) same ∙ hit.0 in rw (hit.0, other) two.0
+      | inr miss ↦ let other = ap (λ k. eqb k q) same ∙ miss.0 in rw (miss.0, other) (with_two R ids bs cs two.1 q)
     ]
 
 -- blocks with the same contents
@@ -57,7 +57,7 @@ two_contents memory after (b ∷ bs) [] e = cc
 two_contents memory after (b ∷ bs) (c ∷ cs) e =
     let rest : contents after cs ≡ contents memory bs = cc in
     let heads : ◌≡◌ {A = ℕ × List ℕ} (c.id, part after c.at c.size) (b.id, part memory b.at b.size) = cc in
-    (ap (λ (p : ℕ × List ℕ). p.1) heads, two_contents memory after bs cs rest)
+    (ap (λ p. p.1) heads, two_contents memory after bs cs rest)
 
 -- where the blocks between two addresses slid
 abbrev pub Stands : ℕ → ℕ → Block → Block → Type 0
@@ -84,4 +84,4 @@ two_gathered low high from top (b ∷ bs) laid all = elim (C.cases_lt b.at low) 
 -- with their bytes
 pub two_slides : (low high : ℕ) (memory after : List ℕ) (bs cs : List Block) → EachTwo (Stands low high) bs cs → contents after cs ≡ contents memory bs → EachTwo (C.Slides low high memory after) bs cs
 two_slides low high memory after bs cs stand same =
-    two_both (Stands low high) (SameBytes memory after) (C.Slides low high memory after) (λ b c s e. record { same = s.0; place = s.1; bytes = e }) bs cs stand (two_contents memory after bs cs same)
+    two_both _ _ _ (λ b c s e. record { same = s.0; place = s.1; bytes = e }) bs cs stand (two_contents memory after bs cs same)

@@ -60,7 +60,7 @@ revived_listed t sound memory inside id e there none n options ids (Err x) d = t
 
 -- a block that was found is its id's
 pub found_known : (t : Table) (id : ℕ) (b : Block) → Some b ≡ block_with t.blocks id → (b.id ≡ id) × (block_with t.blocks b.id ≡ Some b)
-found_known t id b is = let same = (C.member_with t.blocks id b (sym is)).1 in (same, ap (block_with t.blocks) same ∙ sym is)
+found_known t id b is = let same = (C.member_with t.blocks id b (sym is)).1 in (same, ap (block_with _) same ∙ sym is)
 
 pub size_told : (t : Table) → IsSound t → (memory : List ℕ) → t.hi ≤ length memory → (id : ℕ) (b : Block) → Some b ≡ block_with t.blocks id → unwrap_or (option_map (length {A = ℕ}) (bytes_at (heap_in t memory) id)) 0 ≡ b.size
 size_told t sound memory inside id b is =
@@ -92,8 +92,8 @@ told_ok bytes x y old new id n b options is (Err e) ok err = record {
 pub held_by : (t : Table) → IsSound t → (id : ℕ) (e : Entry) → Some e ≡ entry_at t id → (b : Block) → Some b ≡ block_with t.blocks id → (options : RoomOptions) (v : Bool) → v ≡ ((C.is_fixed e.kind || C.nat_lt 0 e.locks) && not options.may_move) → (C.holds_still b.hold && not options.may_move) ≡ v
 held_by t sound id e there b is options v told =
     let layout : Layout = record { cap = length t.entries; lo = t.lo; hi = t.hi; grain = t.grain; blocks = t.blocks } in
-    let hold : b.hold ≡ C.hold_of_entry e = subst (λ p. IsSomeAnd p (λ e. b.hold ≡ C.hold_of_entry e)) (sym there) (holds_at t.entries layout t.order sound id b (sym is)) in
-    ap (λ p. p && not options.may_move) (ap C.holds_still hold ∙ still_hold (C.is_fixed e.kind || C.nat_lt 0 e.locks)) ∙ sym told
+    let hold = subst (λ p. IsSomeAnd p (λ e. b.hold ≡ C.hold_of_entry e)) (sym there) (holds_at _ layout t.order sound id b (sym is)) in
+    ap (λ p. p && not options.may_move) (ap C.holds_still hold ∙ still_hold _) ∙ sym told
 
 -- what is written for one that has no bytes
 pub revived_written : (r : Result Placed NoRoom) (before after : ℕ) (zero : Bool) (n s : ℕ) → s ≡ 0 → IfOk r (λ p. after ≡ counted (counted before p.moved) (if zero then n else 0)) → IfOk r (λ p. after ≡ counted (counted before p.moved) (if zero then n - s else 0))

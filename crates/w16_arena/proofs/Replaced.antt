@@ -8,14 +8,14 @@ all_but_placed x [] = C.all_but_same x.id x [] (C.eq-eqb x.id x.id refl)
 all_but_placed x (c ∷ cs) = elim (C.cases_lt c.at x.at) [
   | inl lt ↦ rw (C.lt-ltb c.at x.at lt) (elim (C.eqb_tells c.id x.id) [
     | inl same ↦ rw same.0 (all_but_placed x cs)
-    | inr other ↦ rw other.0 (ap (λ (ys : List Block). c ∷ ys) (all_but_placed x cs))
+    | inr other ↦ rw other.0 (ap (λ ys. c ∷ ys) (all_but_placed x cs))
   ])
   | inr le ↦ rw (C.le-ltb c.at x.at le) (C.all_but_same x.id x (c ∷ cs) (C.eq-eqb x.id x.id refl))
 ]
 
 -- a block in place of the one of its id leaves the others
 pub same_but : (x : Block) (bs : List Block) → all_but x.id (C.replaced x bs) ≡ all_but x.id bs
-same_but x bs = all_but_placed x (all_but x.id bs) ∙ C.all_but_absent x.id (all_but x.id bs) (C.others_differ x.id bs)
+same_but x bs = all_but_placed x _ ∙ C.all_but_absent x.id _ (C.others_differ x.id bs)
 
 -- A layout in which a block took the place of the one of its id.
 module _ (l : Layout) {new : Layout} (x : Block) (value : new ≡ record l { blocks = C.replaced x l.blocks }) where

@@ -154,16 +154,16 @@ pub holes_held : (l new : Layout) (id : ℕ) (hold : Hold) → IsOrdered l → I
 holes_held l new id hold before after None e there some = absurd (false≢true there)
 holes_held l new id hold before after (Some x) e there some =
     let held : Block = record x { hold = hold } in
-    let mine = C.member_with l.blocks id x e in
-    let known : block_with l.blocks x.id ≡ Some x = ap (block_with l.blocks) mine.1 ∙ e in
-    let laid : C.IsLaid l.lo l.hi (replaced held l.blocks) = subst (λ (m : Layout). C.IsLaid m.lo m.hi m.blocks) some after.laid in
-    ap holes_of some ∙ C.same_holes l.hi l.lo l.lo (holes l.lo l.hi (replaced held l.blocks)) (holes_of l)
-    (C.AreHoles-holes l.lo l.lo l.hi (replaced held l.blocks) (omega arith) laid) (C.AreHoles-holes l.lo l.lo l.hi l.blocks (omega arith) before.laid)
+    let mine = C.member_with _ id x e in
+    let known = ap (block_with _) mine.1 ∙ e in
+    let laid = subst (λ m. C.IsLaid m.lo m.hi m.blocks) some after.laid in
+    ap holes_of some ∙ C.same_holes l.hi l.lo l.lo _ _
+    (C.AreHoles-holes l.lo l.lo l.hi _ (omega arith) laid) (C.AreHoles-holes l.lo l.lo l.hi _ (omega arith) before.laid)
     (λ p is.
-    let lacks = C.free_lacks p l.lo l.hi (replaced held l.blocks) laid is in
-    let each = C.All-first (Lacks p) held (C.all_but x.id l.blocks) lacks.2 in
-    C.lacks_free p l.lo l.hi l.blocks before.laid lacks.0 lacks.1 (C.All-back l.cap (Lacks p) x.id x l.blocks before.named known each.0 each.1))
+    let lacks = C.free_lacks p l.lo l.hi (replaced held _) laid is in
+    let each = C.All-first (Lacks p) held (C.all_but x.id _) lacks.2 in
+    C.lacks_free p l.lo l.hi _ before.laid lacks.0 lacks.1 (C.All-back l.cap _ x.id x _ before.named known each.0 each.1))
     (λ p is.
-    let lacks = C.free_lacks p l.lo l.hi l.blocks before.laid is in
-    C.lacks_free p l.lo l.hi (replaced held l.blocks) laid lacks.0 lacks.1
-    (C.All-placed (Lacks p) held (C.all_but x.id l.blocks) (C.Each-at (Lacks p) l.blocks lacks.2 x mine.0) (C.All-all_but (Lacks p) x.id l.blocks lacks.2)))
+    let lacks = C.free_lacks p l.lo l.hi _ before.laid is in
+    C.lacks_free p l.lo l.hi (replaced held _) laid lacks.0 lacks.1
+    (C.All-placed _ held _ (C.Each-at _ _ lacks.2 x mine.0) (C.All-all_but _ x.id _ lacks.2)))

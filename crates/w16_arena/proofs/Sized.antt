@@ -18,7 +18,7 @@ member_some : (xs : List Block) (x : Block) → Member x xs → block_with xs x.
 member_some [] x m none = m
 member_some (y ∷ ys) x m none = elim (C.eqb_tells y.id x.id) [
   | inl same ↦ let some : ◌≡◌ {A = Option Block} (Some y) None = rw same.0 at none in cc
-  | inr other ↦ elim m [ inl e ↦ other.1 (ap (λ (z : Block). z.id) (sym e)) | inr k ↦ member_some ys x k (rw other.0 at none) ]
+  | inr other ↦ elim m [ inl e ↦ other.1 (ap (λ z. z.id) (sym e)) | inr k ↦ member_some ys x k (rw other.0 at none) ]
 ]
 
 module _ (t : Table) (sound : C.IsSound t) (memory : List ℕ) (inside : t.hi ≤ length memory) (b : Block) (known : block_with t.blocks b.id ≡ Some b) where

@@ -16,9 +16,9 @@ longer from high at size a b l k (inr s) m = inr s
 -- of two listed blocks the lower one ends before the other
 blocks_apart : (lo hi : ℕ) (bs : List Block) → C.IsLaid lo hi bs → (x y : Block) → Member x bs → Member y bs → x.at < y.at → block_end x ≤ y.at
 blocks_apart lo hi [] laid x y m n l = absurd m
-blocks_apart lo hi (b ∷ bs) laid x y (inl e) (inl f) l = absurd (omega (arith, l, ap (λ (z : Block). z.at) (e ∙ sym f)))
+blocks_apart lo hi (b ∷ bs) laid x y (inl e) (inl f) l = absurd (omega (arith, l, ap (λ z. z.at) (e ∙ sym f)))
 blocks_apart lo hi (b ∷ bs) laid x y (inl e) (inr n) l = omega (arith, ap block_end e, (Each-at _ bs (laid_each (block_end b) hi bs laid.2) y n).0)
-blocks_apart lo hi (b ∷ bs) laid x y (inr m) (inl f) l = absurd (omega (arith, l, ap (λ (z : Block). z.at) f, (Each-at _ bs (laid_each (block_end b) hi bs laid.2) x m).0))
+blocks_apart lo hi (b ∷ bs) laid x y (inr m) (inl f) l = absurd (omega (arith, l, ap (λ z. z.at) f, (Each-at _ bs (laid_each (block_end b) hi bs laid.2) x m).0))
 blocks_apart lo hi (b ∷ bs) laid x y (inr m) (inr n) l = blocks_apart (block_end b) hi bs laid.2 x y m n l
 
 -- A listed block lies inside.
@@ -29,8 +29,8 @@ get_member (b ∷ bs) (suc i) x h = inr (get_member bs i x h)
 
 pub get_inside : (lo hi : ℕ) (bs : List Block) → C.IsLaid lo hi bs → hi < 4294967296 → (i : ℕ) (x : Block) → slice_get bs i ≡ Some x → (0 < x.size) × (x.at + x.size < 4294967296)
 get_inside lo hi bs laid small i x is =
-    let inside : (lo ≤ x.at) × (0 < x.size) × (block_end x ≤ hi) = Each-at (λ x. (lo ≤ x.at) × (0 < x.size) × (block_end x ≤ hi)) bs (laid_each lo hi bs laid) x (get_member bs i x is) in
-    (inside.1, let high : x.at + x.size ≤ hi = inside.2 in omega arith)
+    let inside = Each-at (λ x. (lo ≤ x.at) × (0 < x.size) × (block_end x ≤ hi)) bs (laid_each lo hi bs laid) x (get_member bs i x is) in
+    (inside.1, let high = inside.2 in omega arith)
 
 -- Parts of the heap of a table, by its blocks.
 abbrev pub item_of : Block → Entry → Item
@@ -224,7 +224,7 @@ module _ {t : Table} (sound : C.IsSound t) (memory : List ℕ) (whole : t.hi ≤
 -- a block's part has bytes, and ends where a double word can tell
 pub part_inside : (t : Table) → C.IsSound t → t.hi < 4294967296 → (i : ℕ) (found : Option Item) → IsPartAt t (slice_get t.blocks i) found
     → C.IfSome found (λ item. (0 < item.size) × (item.at + item.size < 4294967296))
-part_inside t sound small i found part = turn (slice_get t.blocks i) refl part
+part_inside t sound small i found part = turn _ refl part
   where
     Ends : Option Item → Type 0
     Ends found = C.IfSome found (λ item. (0 < item.size) × (item.at + item.size < 4294967296))
@@ -235,4 +235,4 @@ part_inside t sound small i found part = turn (slice_get t.blocks i) refl part
 
     turn : (o : Option Block) → slice_get t.blocks i ≡ o → IsPartAt t o found → Ends found
     turn None is part = subst Ends (sym part) tt
-    turn (Some b) is part = owned b (entry_at t b.id) (get_inside t.lo t.hi t.blocks sound.table.laid small i b is) part
+    turn (Some b) is part = owned b _ (get_inside t.lo t.hi _ sound.table.laid small i b is) part

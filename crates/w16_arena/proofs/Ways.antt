@@ -58,7 +58,7 @@ pub clear_bytes : {l : Layout} (n at : ℕ) → AreFreeBytes l n at → C.IsClea
 clear_bytes {l} n at free = record {
   above = free.above;
   below = free.below;
-  misses = C.All-from_Each _ l.blocks (C.Each-map (λ x. C.Misses x.at x.size at (at + n)) (λ x. IsTrue (C.is_any x) → C.Misses x.at x.size at (at + n)) (λ x f t. f) l.blocks free.misses);
+  misses = C.All-from_Each _ _ (C.Each-map (λ x. C.Misses x.at x.size at (at + n)) (λ x. IsTrue (C.is_any x) → C.Misses x.at x.size at _) (λ x f t. f) _ free.misses);
 }
 
 -- The same by the object's id.

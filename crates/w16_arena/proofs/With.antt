@@ -29,7 +29,7 @@ with-placed b (c ∷ cs) q free = elim (C.cases_lt c.at b.at) [
 ]
 
 pub with-replaced : (b : Block) (bs : List Block) (q : ℕ) → block_with (C.replaced b bs) q ≡ cond (b.id == q) (Some b) (block_with bs q)
-with-replaced b bs q = with-placed b (all_but b.id bs) q (C.others_differ b.id bs) ∙ elim (eqb_tells b.id q) [
+with-replaced b bs q = with-placed b _ q (C.others_differ b.id bs) ∙ elim (eqb_tells b.id q) [
   | inl same ↦ rw same.0 refl
   | inr other ↦ rw other.0 (with-without b.id bs q ∙ rw other.0 refl)
 ]

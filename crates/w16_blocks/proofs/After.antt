@@ -16,7 +16,7 @@ length_past from to a hs ne = elim (cases_lt from to) [
 
 length_low : (lo hi a : ℕ) (hs : List Span) → a < lo → C.AreHoles lo hi hs → length_at a hs ≡ 0
 length_low lo hi a [] lt are = refl
-length_low lo hi a (h ∷ hs) lt are = let from = are.0 in let some = are.1 in rw (C.ne_eqb h.from a (λ e. omega arith)) (length_low (suc h.to) hi a hs (omega arith) are.3)
+length_low lo hi a (h ∷ hs) lt are = let from = are.0 in let some = are.1 in rw (C.ne_eqb h.from a (λ e. omega arith)) (length_low _ hi a hs (omega arith) are.3)
 
 -- the hole where the range begins
 length_first : (lo hi : ℕ) (bs : List Block) → C.IsLaid lo hi bs → length_at lo (holes lo hi bs) ≡ hole_after hi bs lo
@@ -26,10 +26,10 @@ length_first lo hi [] laid = elim (cases_lt lo hi) [
 ]
 length_first lo hi (x ∷ xs) laid =
     let from = laid.0 in let size = laid.1 in
-    let end : hole_after hi (x ∷ xs) lo ≡ x.at - lo = ap (λ (n : ℕ). n - lo) (C.first_hole_end lo hi x xs laid) in
+    let end = ap (λ n. n - lo) (C.first_hole_end lo hi x xs laid) in
     ap (length_at lo) (holes-cons lo hi x xs laid) ∙ (elim (cases_lt lo x.at) [
       | inl some ↦ rw (lt-ltb lo x.at some) (length_here lo x.at (holes (block_end x) hi xs) some)
-      | inr none ↦ rw (le-ltb lo x.at none) (length_low (block_end x) hi lo (holes (block_end x) hi xs) (omega arith) (AreHoles-holes (block_end x) (block_end x) hi xs (omega arith) laid.2) ∙ zero_less lo x.at none)
+      | inr none ↦ rw (le-ltb lo x.at none) (length_low (block_end x) hi lo (holes _ hi xs) (omega arith) (AreHoles-holes _ _ hi xs (omega arith) laid.2) ∙ zero_less lo x.at none)
     ]) ∙ sym end
   where
     zero_less : (a b : ℕ) → b ≤ a → 0 ≡ b - a
@@ -43,14 +43,14 @@ length_after lo hi id x (b ∷ bs) laid e =
     elim (C.eqb_tells b.id id) [
       | inl same ↦
           let f : Some b ≡ Some x = sym (with_same id b bs same.0) ∙ e in let g : b ≡ x = cc in
-          ap (λ (y : Block). length_at (block_end y) (holes lo hi (b ∷ bs))) (sym g)
-          ∙ ap (length_at (block_end b)) (holes-cons lo hi b bs laid) ∙ length_past lo b.at (block_end b) (holes (block_end b) hi bs) (λ h. omega arith)
-          ∙ length_first (block_end b) hi bs laid.2 ∙ ap (λ (n : ℕ). n - block_end b) (sym (C.first_behind lo hi b bs laid (block_end b) (omega arith)))
-          ∙ ap (λ (y : Block). hole_after hi (b ∷ bs) (block_end y)) g
+          ap (λ y. length_at (block_end y) (holes lo hi (b ∷ bs))) (sym g)
+          ∙ ap (length_at _) (holes-cons lo hi b bs laid) ∙ length_past lo b.at (block_end b) (holes _ hi bs) (λ h. omega arith)
+          ∙ length_first _ hi bs laid.2 ∙ ap (λ n. n - block_end b) (sym (C.first_behind lo hi b bs laid _ (omega arith)))
+          ∙ ap (λ y. hole_after hi (b ∷ bs) (block_end y)) g
       | inr other ↦
-          let e' : C.block_with bs id ≡ Some x = sym (with_other id b bs other.0) ∙ e in
-          let there = each_with (λ y. (block_end b ≤ y.at) × (0 < y.size) × (block_end y ≤ hi)) id x bs e' (C.laid_each (block_end b) hi bs laid.2) in
+          let e' = sym (with_other id b bs other.0) ∙ e in
+          let there = each_with (λ y. (block_end b ≤ y.at) × (0 < y.size) × (block_end y ≤ hi)) id x bs e' (C.laid_each _ hi bs laid.2) in
           let above = there.0 in
-          ap (length_at (block_end x)) (holes-cons lo hi b bs laid) ∙ length_past lo b.at (block_end x) (holes (block_end b) hi bs) (λ h. omega arith)
-          ∙ length_after (block_end b) hi id x bs laid.2 e' ∙ ap (λ (n : ℕ). n - block_end x) (sym (C.first_behind lo hi b bs laid (block_end x) (omega arith)))
+          ap (length_at _) (holes-cons lo hi b bs laid) ∙ length_past lo b.at (block_end x) (holes _ hi bs) (λ h. omega arith)
+          ∙ length_after (block_end b) hi id x bs laid.2 e' ∙ ap (λ n. n - block_end x) (sym (C.first_behind lo hi b bs laid _ (omega arith)))
     ]

@@ -5,14 +5,14 @@ use Rattle.w16_blocks.proofs.{Cells.told_with, Lifting.around}
 pub last_ending : {cap lo hi g : ℕ} {slots : List Block} {cells : List ℕ} → AreTables cap lo hi g slots cells → (id : ℕ) (b : Block) → slot_of slots id ≡ b → 0 < b.size → (place : ℕ) → b.at + b.size ≡ place
     → IsLastBelow (blocks_in slots cells) place b
 last_ending {cap} {lo} {hi} {g} {slots} {cells} t id b is some place ends =
-    let cell = t.found id (subst (λ (c : Block). 0 < c.size) (sym is) some) in
+    let cell = t.found id (subst (λ c. 0 < c.size) (sym is) some) in
     let known : block_with (blocks_in slots cells) b.id ≡ Some b =
-    ap (block_with (blocks_in slots cells)) (ap (λ (c : Block). c.id) (sym is) ∙ (t.begun cell.0 id cell.1).same) ∙ (told_with lo g slots cells cell.0 id t.begun cell.1 ∙ ap Some is) in record {
+    ap (block_with _) (ap (λ c. c.id) (sym is) ∙ (t.begun cell.0 id cell.1).same) ∙ (told_with lo g slots cells cell.0 id t.begun cell.1 ∙ ap Some is) in record {
       known = known;
       below = omega arith;
       last = Each-map (λ c. (block_end c ≤ b.at) ⊎ ((block_end b ≤ c.at) ⊎ (c ≡ b))) (λ c. (c.at ≤ b.at) ⊎ (place ≤ c.at))
           (λ c around_it. elim around_it [
             | inl before ↦ inl (omega arith)
-            | inr other ↦ elim other [ inl behind ↦ inr (omega arith) | inr same ↦ inl (let at = ap (λ (x : Block). x.at) same in omega arith) ]
-          ]) (blocks_in slots cells) (around lo hi cap b (blocks_in slots cells) t.ordered.laid t.ordered.named known);
+            | inr other ↦ elim other [ inl behind ↦ inr (omega arith) | inr same ↦ inl (let at = ap (λ x. x.at) same in omega arith) ]
+          ]) _ (around lo hi cap b _ t.ordered.laid t.ordered.named known);
     }

@@ -6,7 +6,7 @@ abbrev pub Lacks : ℕ → Block → Type 0
 Lacks p c = (p < c.at) ⊎ (block_end c ≤ p)
 
 pub later : (p lo hi : ℕ) (bs : List Block) → p < lo → IsLaid lo hi bs → AllByRecursion (Lacks p) bs
-later p lo hi bs lt laid = Each-map (λ y. (lo ≤ y.at) × (0 < y.size) × (block_end y ≤ hi)) (Lacks p) (λ y is. let from = is.0 in inl (omega arith)) bs (laid_each lo hi bs laid)
+later p lo hi bs lt laid = Each-map (λ y. (lo ≤ y.at) × (0 < y.size) × (block_end y ≤ hi)) _ (λ y is. let from = is.0 in inl (omega arith)) bs (laid_each lo hi bs laid)
 
 pub AreHoles-holes : (least lo hi : ℕ) (bs : List Block) → least ≤ lo → IsLaid lo hi bs → AreHoles least hi (holes lo hi bs)
 AreHoles-holes least lo hi [] le laid = elim (cases_lt lo hi) [
@@ -27,7 +27,7 @@ free_lacks p lo hi [] laid is = elim (cases_lt lo hi) [
     | inl here ↦ let to = here.1 in (here.0, omega arith, tt)
     | inr none ↦ absurd none
   ]
-  | inr none ↦ let nil : IsIn p [] = rw (le-ltb lo hi none) at is in absurd nil
+  | inr none ↦ let nil = rw (le-ltb lo hi none) at is in absurd nil
 ]
 free_lacks p lo hi (x ∷ xs) laid is =
     let from = laid.0 in let size = laid.1 in let to = laid_le (block_end x) hi xs laid.2 in
@@ -39,7 +39,7 @@ free_lacks p lo hi (x ∷ xs) laid is =
         | inl here ↦ let e = here.1 in (here.0, omega arith, (inl (omega arith), later p (block_end x) hi xs (omega arith) laid.2))
         | inr rest ↦ behind rest
       ]
-      | inr none ↦ behind (let rest : IsIn p (holes (block_end x) hi xs) = rw (le-ltb lo x.at none) at split in rest)
+      | inr none ↦ behind (let rest = rw (le-ltb lo x.at none) at split in rest)
     ]
 
 -- a byte that no block has is free
@@ -49,7 +49,7 @@ lacks_free p lo hi (x ∷ xs) laid from to all =
     subst (IsIn p) (sym (holes-cons lo hi x xs laid)) (elim (cases_lt lo x.at) [
       | inl some ↦ rw (lt-ltb lo x.at some) (elim all.0 [
         | inl before ↦ inl (from, omega arith)
-        | inr behind ↦ inr (lacks_free p (block_end x) hi xs laid.2 behind to all.1)
+        | inr behind ↦ inr (lacks_free p _ hi xs laid.2 behind to all.1)
       ])
       | inr none ↦ rw (le-ltb lo x.at none) (lacks_free p (block_end x) hi xs laid.2 (elim all.0 [ inl before ↦ absurd (omega arith) | inr behind ↦ behind ]) to all.1)
     ])
@@ -66,7 +66,7 @@ pub used_of : (a b lo hi : ℕ) (hs : List Span) → a < b → AreHoles lo hi hs
 used_of a b lo hi [] some are none = tt
 used_of a b lo hi (h ∷ hs) some are none =
     let size = are.1 in
-    let rest = used_of a b (suc h.to) hi hs some are.3 (λ p from to free. none p from to (inr free)) in
+    let rest = used_of a b _ hi hs some are.3 (λ p from to free. none p from to (inr free)) in
     elim (cases_lt a h.to) [
       | inl less ↦ elim (cases_lt h.from b) [
         | inl meets ↦ absurd (none (max a h.from) (omega arith) (omega arith) (inl (omega arith, omega arith)))
@@ -81,13 +81,13 @@ free_of a b lo hi (h ∷ hs) some are all = elim (all a (omega arith) some) [
   | inl at ↦ let s = at.0 in let e = at.1 in elim (cases_lt h.to b) [
     | inl past ↦ elim (all h.to (omega arith) past) [
       | inl here ↦ let r = here.1 in absurd (omega arith)
-      | inr rest ↦ let r = low (suc h.to) hi h.to hs are.3 rest in absurd (omega arith)
+      | inr rest ↦ let r = low _ hi h.to hs are.3 rest in absurd (omega arith)
     ]
     | inr inside ↦ inl (s, inside)
   ]
   | inr behind ↦
-      let above = low (suc h.to) hi a hs are.3 behind in
-      inr (free_of a b (suc h.to) hi hs some are.3 (λ p from to. elim (all p from to) [
+      let above = low _ hi a hs are.3 behind in
+      inr (free_of a b _ hi hs some are.3 (λ p from to. elim (all p from to) [
         | inl here ↦ let r = here.1 in absurd (omega arith)
         | inr rest ↦ rest
       ]))

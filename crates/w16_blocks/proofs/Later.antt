@@ -24,7 +24,7 @@ joined_end lo hi end le l = elim (C.cases_lt lo hi) [
 ]
 
 joined_behind : (lo at hi end : ℕ) (rest : List Span) → at < hi → joined hi end (add_span lo at rest) ≡ add_span lo at (joined hi end rest)
-joined_behind lo at hi end rest l = turn (C.nat_lt lo at)
+joined_behind lo at hi end rest l = turn _
   where
     turn : (b : Bool) → joined hi end (cond {A = List Span} b (span lo at ∷ rest) rest) ≡ cond {A = List Span} b (span lo at ∷ joined hi end rest) (joined hi end rest)
     turn true = rw (lt-ltb at hi l) refl
@@ -33,16 +33,16 @@ joined_behind lo at hi end rest l = turn (C.nat_lt lo at)
 holes_later : (lo hi end : ℕ) (bs : List Block) → IsLaid lo hi bs → hi < end → holes lo end bs ≡ joined hi end (holes lo hi bs)
 holes_later lo hi end [] laid l = joined_end lo hi end laid l
 holes_later lo hi end (x ∷ xs) laid l =
-    let below = C.laid_le (block_end x) hi xs laid.2 in
+    let below = C.laid_le _ hi xs laid.2 in
     C.holes-cons lo end x xs (laid_later lo hi end (x ∷ xs) laid (omega arith))
     ∙ ap (add_span lo x.at) (holes_later (block_end x) hi end xs laid.2 l)
-    ∙ sym (ap (joined hi end) (C.holes-cons lo hi x xs laid) ∙ joined_behind lo x.at hi end (holes (block_end x) hi xs) (omega (arith, below, laid.1)))
+    ∙ sym (ap (joined hi end) (C.holes-cons lo hi x xs laid) ∙ joined_behind lo x.at hi end _ (omega (arith, below, laid.1)))
 
 -- cells of 0 behind the others tell no block
 blocks_in-longer : (slots : List Block) (cells : List ℕ) (n : ℕ) → blocks_in slots (cells ++ replicate n 0) ≡ blocks_in slots cells
-blocks_in-longer slots [] n = blocks_in-none slots (replicate n 0) (λ k. get_or-replicate_same n k 0)
+blocks_in-longer slots [] n = blocks_in-none slots _ (λ k. get_or-replicate_same n k 0)
 blocks_in-longer slots (zero ∷ cells) n = blocks_in-longer slots cells n
-blocks_in-longer slots (suc id ∷ cells) n = ap (λ (bs : List Block). C.slot_of slots id ∷ bs) (blocks_in-longer slots cells n)
+blocks_in-longer slots (suc id ∷ cells) n = ap (λ bs. C.slot_of slots id ∷ bs) (blocks_in-longer slots cells n)
 
 slice_index-longer : (cells : List ℕ) (n k : ℕ) → slice_index (cells ++ replicate n 0) k ≡ slice_index cells k
 slice_index-longer [] n k = get_or-replicate_same n k 0

@@ -13,14 +13,14 @@ pub fits_lifted : (l : C.Layout) (to : ℕ) (x : Block) → C.IsOrdered l → C.
 fits_lifted l to x ordered known up end all grained =
     let own = lies l x.id x known ordered in let low = own.0 in let some = own.1 in
     record {
-      id = each_with (λ c. c.id < l.cap) x.id x l.blocks known (named_each l.cap l.blocks ordered.named);
+      id = each_with (λ c. c.id < l.cap) x.id x l.blocks known (named_each l.cap _ ordered.named);
       free = others_differ x.id l.blocks;
       inside = (omega arith, some, end);
       apart = C.Each-both (IsPassed x to) (IsApart x) (IsApart (record x { at = to }))
           (λ c past apart. elim past [
             | inl under ↦ elim apart [ inl behind ↦ absurd (omega arith) | inr before ↦ inr (omega arith) ]
             | inr over ↦ inl over
-          ]) (C.all_but x.id l.blocks) (All-all_but (IsPassed x to) x.id l.blocks all) (others_apart l.lo l.hi l.cap x.id x l.blocks ordered.laid ordered.named known);
+          ]) (C.all_but x.id _) (All-all_but _ x.id _ all) (others_apart l.lo l.hi l.cap x.id x _ ordered.laid ordered.named known);
       grained = (grained, (grained_known l x.id x known ordered).1);
     }
 

@@ -19,7 +19,7 @@ rank_same at b bs le = rw (C.le-ltb b.at at le) refl
 pub first_by_unit : (p g at : ℕ) (slots : List Block) (cells : List ℕ) (u : ℕ) → C.AreBegun p g slots cells → ((k : ℕ) → k < u → p + g * k < at) → ((k : ℕ) → u ≤ k → at ≤ p + g * k)
     → slice_get (blocks_in slots cells) (rank at (blocks_in slots cells)) ≡ slice_get (blocks_in slots (drop u cells)) 0
 first_by_unit p g at slots cells zero begun less more =
-    ap (slice_get (blocks_in slots cells)) (rank_none at (blocks_in slots cells) (All-told (λ c. at ≤ c.at) slots cells (λ k id e. let place = (begun k id e).at in let above = more k (omega arith) in omega arith)))
+    ap (slice_get _) (rank_none at _ (All-told (λ c. at ≤ c.at) slots cells (λ k id e. let place = (begun k id e).at in let above = more k (omega arith) in omega arith)))
 first_by_unit p g at slots [] (suc u) begun less more = refl
 first_by_unit p g at slots (zero ∷ cells) (suc u) begun less more =
     first_by_unit (p + g) g at slots cells u (begun_rest p g 0 slots cells begun) (λ k lt. let below = less (suc k) (omega arith) in omega arith) (λ k le. let above = more (suc k) (omega arith) in omega arith)
@@ -37,16 +37,16 @@ pass_one slots (suc j ∷ cells) zero clear = absurd (omega arith)
 pass_one slots (c ∷ cells) (suc u) clear = pass_one slots cells u clear
 
 pub pass : (slots : List Block) (cells : List ℕ) (u n : ℕ) → ((k : ℕ) → u ≤ k → k < u + n → slice_index cells k ≡ 0) → blocks_in slots (drop u cells) ≡ blocks_in slots (drop (u + n) cells)
-pass slots cells u zero clear = let e : u ≡ u + 0 = omega arith in ap (λ (m : ℕ). blocks_in slots (drop m cells)) e
+pass slots cells u zero clear = let e : u ≡ u + 0 = omega arith in ap (λ m. blocks_in slots (drop m cells)) e
 pass slots cells u (suc n) clear =
     let e : suc u + n ≡ u + suc n = omega arith in
-    pass_one slots cells u (clear u (omega arith) (omega arith)) ∙ pass slots cells (suc u) n (λ k from to. clear k (omega arith) (omega arith)) ∙ ap (λ (m : ℕ). blocks_in slots (drop m cells)) e
+    pass_one slots cells u (clear u (omega arith) (omega arith)) ∙ pass slots cells (suc u) n (λ k from to. clear k (omega arith) (omega arith)) ∙ ap (λ m. blocks_in slots (drop m cells)) e
 
 -- a cell that tells a block has it first
 pub first_here : (slots : List Block) (cells : List ℕ) (u id : ℕ) → slice_index cells u ≡ suc id → slice_get (blocks_in slots (drop u cells)) 0 ≡ Some (slot_of slots id)
 first_here slots [] u id e = absurd (omega arith)
 first_here slots (zero ∷ cells) zero id e = absurd (omega arith)
-first_here slots (suc j ∷ cells) zero id e = let same : j ≡ id = omega arith in ap (λ (i : ℕ). Some (slot_of slots i)) same
+first_here slots (suc j ∷ cells) zero id e = let same : j ≡ id = omega arith in ap (λ i. Some (slot_of slots i)) same
 first_here slots (c ∷ cells) (suc u) id e = first_here slots cells u id e
 
 pub none_past : (slots : List Block) (cells : List ℕ) (u : ℕ) → length cells ≤ u → slice_get (blocks_in slots (drop u cells)) 0 ≡ None
@@ -59,8 +59,8 @@ none_past slots (c ∷ cells) (suc u) le = none_past slots cells u (omega arith)
 length_free : (a p : ℕ) (hs : List Span) → a ≤ p → p < a + length_at a hs → IsIn p hs
 length_free a p [] from to = absurd (omega arith)
 length_free a p (h ∷ hs) from to = elim (C.eqb_tells h.from a) [
-  | inl same ↦ let long : p < a + (h.to - h.from) = rw same.0 at to in let at = same.1 in inl (omega arith, omega arith)
-  | inr other ↦ inr (length_free a p hs from (let rest : p < a + length_at a hs = rw other.0 at to in rest))
+  | inl same ↦ let long = rw same.0 at to in let at = same.1 in inl (omega arith, omega arith)
+  | inr other ↦ inr (length_free a p hs from (let rest = rw other.0 at to in rest))
 ]
 
 zero_or : (n : ℕ) → (n ≡ 0) ⊎ ((m : ℕ) × (n ≡ suc m))
@@ -70,17 +70,17 @@ zero_or (suc m) = inr (m, refl)
 -- so in its units no block begins
 pub clear_in : (cap lo hi g : ℕ) (slots : List Block) (cells : List ℕ) → C.AreTables cap lo hi g slots cells → (u hole : ℕ) → slice_index cells u ≡ 0 → hole ≡ length_at (lo + g * u) (holes lo hi (blocks_in slots cells))
     → (k : ℕ) → u ≤ k → k < u + max (hole / g) 1 → slice_index cells k ≡ 0
-clear_in cap lo hi g slots cells t u hole clear is k from to = elim (zero_or (slice_index cells k)) [
+clear_in cap lo hi g slots cells t u hole clear is k from to = elim (zero_or _) [
   | inl none ↦ none
   | inr some ↦
       let begins = t.begun k some.0 some.1 in let place = begins.at in let size = begins.some in
       elim (C.cases_lt u k) [
         | inl past ↦
             let grain = t.some in let low = up g u k from in
-            let units : g * (suc k - u) ≤ g * (hole / g) = up g (suc k - u) (hole / g) (omega arith) in
-            let sum : g * suc k ≡ g * (u + (suc k - u)) = ap (λ (i : ℕ). g * i) (let e : suc k ≡ u + (suc k - u) = omega arith in e) in
-            let free = length_free (lo + g * u) (lo + g * k) (holes lo hi (blocks_in slots cells)) (omega arith) (omega arith) in
-            let lacks = each_told (Lacks (lo + g * k)) slots cells k some.0 some.1 (free_lacks (lo + g * k) lo hi (blocks_in slots cells) t.ordered.laid free).2 in
+            let units = up g (suc k - u) (hole / g) (omega arith) in
+            let sum = ap (λ i. g * i) (let e : suc k ≡ u + (suc k - u) = omega arith in e) in
+            let free = length_free (lo + g * u) (lo + g * k) _ (omega arith) (omega arith) in
+            let lacks = each_told _ slots cells k some.0 some.1 (free_lacks _ lo hi _ t.ordered.laid free).2 in
             elim lacks [ inl before ↦ absurd (omega arith) | inr behind ↦ absurd (omega arith) ]
         | inr same ↦ let e : k ≡ u = omega arith in ap (slice_index cells) e ∙ clear
       ]

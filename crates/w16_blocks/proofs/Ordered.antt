@@ -22,7 +22,7 @@ below : (cap : ℕ) (bs : List Block) → AreNamed cap bs → (q : ℕ) → list
 below cap [] named q e = absurd (false≢true e)
 below cap (b ∷ bs) named q e =
     let lt = named.0 in
-    elim (C.or_cases (eqb q b.id) (list_any (eqb q) (ids bs)) e) [
+    elim (C.or_cases _ _ e) [
       | inl here ↦ let same = C.eqb-true q b.id here in omega arith
       | inr there ↦ below cap bs named.2 q there
     ]
@@ -31,37 +31,37 @@ below cap (b ∷ bs) named q e =
 no_more : (cap : ℕ) (bs : List Block) → AreNamed cap bs → C.length bs ≤ cap
 unfolding IsDistinct
 no_more cap bs named =
-    let all = C.length-le_from_distinct_below (ids bs) cap (distinct cap bs named) (λ q e. below cap bs named q e) in
+    let all = C.length-le_from_distinct_below _ cap (distinct cap bs named) (λ q e. below cap bs named q e) in
     let n = C.length-map bs (λ b. b.id) in
     omega arith
 
 pub IsOrdered-placed : (l : C.Layout) (b : Block) → l.cap < 2 ^ 32 → Fits l b → IsOrdered l → IsOrdered (record l { blocks = C.placed b l.blocks })
 IsOrdered-placed l b ids fits ordered =
-    let named = AreNamed-placed l.cap b l.blocks fits.id fits.free ordered.named in record {
-      laid = IsLaid-placed l.lo l.hi b l.blocks fits.inside.0 fits.inside.1 fits.inside.2 fits.apart ordered.laid;
+    let named = AreNamed-placed l.cap b _ fits.id fits.free ordered.named in record {
+      laid = IsLaid-placed l.lo l.hi b _ fits.inside.0 fits.inside.1 fits.inside.2 fits.apart ordered.laid;
       named = named;
-      grained = All-placed (C.IsGrained l.grain) b l.blocks fits.grained ordered.grained;
+      grained = All-placed _ b _ fits.grained ordered.grained;
       from = ordered.from;
       small = ordered.small;
-      few = let few = no_more l.cap (C.placed b l.blocks) named in omega arith;
+      few = let few = no_more l.cap _ named in omega arith;
     }
 
 pub IsOrdered-all_but : (l : C.Layout) (id : ℕ) → l.cap < 2 ^ 32 → IsOrdered l → IsOrdered (record l { blocks = C.all_but id l.blocks })
 IsOrdered-all_but l id ids ordered =
-    let named = AreNamed-all_but l.cap id l.blocks ordered.named in record {
-      laid = IsLaid-all_but l.lo l.hi id l.blocks ordered.laid;
+    let named = AreNamed-all_but l.cap id _ ordered.named in record {
+      laid = IsLaid-all_but l.lo l.hi id _ ordered.laid;
       named = named;
-      grained = All-all_but (C.IsGrained l.grain) id l.blocks ordered.grained;
+      grained = All-all_but _ id _ ordered.grained;
       from = ordered.from;
       small = ordered.small;
-      few = let few = no_more l.cap (C.all_but id l.blocks) named in omega arith;
+      few = let few = no_more l.cap _ named in omega arith;
     }
 
 -- the bounds hold all blocks
-pub sum_fits : (lo hi : ℕ) (bs : List Block) → C.IsLaid lo hi bs → lo + sum_by (λ (b : Block). b.size) bs ≤ hi
+pub sum_fits : (lo hi : ℕ) (bs : List Block) → C.IsLaid lo hi bs → lo + sum_by (λ b. b.size) bs ≤ hi
 sum_fits lo hi [] laid = let none : sum_by (λ (b : Block). b.size) [] ≡ 0 = refl in omega arith
 sum_fits lo hi (b ∷ bs) laid =
-    let from = laid.0 in let rest = sum_fits (C.block_end b) hi bs laid.2 in let sum = sum_by-cons (λ (c : Block). c.size) b bs in omega arith
+    let from = laid.0 in let rest = sum_fits (C.block_end b) hi bs laid.2 in let sum = sum_by-cons (λ c. c.size) b bs in omega arith
 
 pub pins_small : (h : Hold) → C.pins_of h ≤ 1
 pins_small Pinned = omega arith
@@ -72,13 +72,13 @@ pub pins_fit : (lo hi : ℕ) (bs : List Block) → C.IsLaid lo hi bs → sum_by 
 pins_fit lo hi [] laid = let none : sum_by pins_in [] ≡ 0 = refl in omega arith
 pins_fit lo hi (b ∷ bs) laid =
     let one = pins_small b.hold in let some = laid.1 in let rest = pins_fit (C.block_end b) hi bs laid.2 in
-    let pins = sum_by-cons pins_in b bs in let sum = sum_by-cons (λ (c : Block). c.size) b bs in omega arith
+    let pins = sum_by-cons pins_in b bs in let sum = sum_by-cons (λ c. c.size) b bs in omega arith
 
 -- where none is counted, each block is loose
 pub counted_any : (bs : List Block) → list_any C.is_pinned bs ≡ nat_lt 0 (sum_by pins_in bs)
 counted_any [] = refl
-counted_any (b ∷ bs) = ap (λ (t : Bool). C.is_pinned b || t) (counted_any bs) ∙ more b.hold ∙ ap (nat_lt 0) (sym (sum_by-cons pins_in b bs))
+counted_any (b ∷ bs) = ap (λ t. C.is_pinned b || t) (counted_any bs) ∙ more b.hold ∙ ap (nat_lt 0) (sym (sum_by-cons pins_in b bs))
   where
     more : (h : Hold) → (C.holds_still h || nat_lt 0 (sum_by pins_in bs)) ≡ nat_lt 0 (C.pins_of h + sum_by pins_in bs)
-    more Pinned = sym (lt-ltb 0 (1 + sum_by pins_in bs) (omega arith))
+    more Pinned = sym (lt-ltb 0 _ (omega arith))
     more Loose = ap (nat_lt 0) (omega arith)

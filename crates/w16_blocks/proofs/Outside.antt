@@ -13,7 +13,7 @@ used_each lo hi bs laid = each bs (C.laid_each lo hi bs laid) (λ p all. all)
     each [] lies among = tt
     each (c ∷ cs) lies among =
         let some = lies.0.1 in (
-          used_of c.at (block_end c) lo hi (holes lo hi bs) (omega arith) (AreHoles-holes lo lo hi bs (omega arith) laid)
+          used_of c.at _ lo hi _ (omega arith) (AreHoles-holes lo lo hi bs (omega arith) laid)
               (λ p from to is. elim (among p (free_lacks p lo hi bs laid is).2).0 [ inl before ↦ omega arith | inr behind ↦ omega arith ]),
           each cs lies.1 (λ p all. (among p all).1),
         )
@@ -38,23 +38,23 @@ module _ (lo hi : ℕ) (bs : List Block) (laid : IsLaid lo hi bs) where
 rest_of : (old new : List ℕ) (hi : ℕ) → length new ≡ length old → part new hi (length old - hi) ≡ part old hi (length old - hi) → drop hi new ≡ drop hi old
 rest_of old new hi long same =
     let a = C.length-drop hi new in let b = C.length-drop hi old in
-    sym (C.take_all (length old - hi) (drop hi new) (omega arith)) ∙ same ∙ C.take_all (length old - hi) (drop hi old) (omega arith)
+    sym (C.take_all _ _ (omega arith)) ∙ same ∙ C.take_all _ _ (omega arith)
 
 -- where only bytes of holes change, those outside the bounds stay
 pub outside_holes : (lo hi : ℕ) (bs : List Block) (old new : List ℕ) → IsLaid lo hi bs → C.AreSameOutside (holes lo hi bs) old new → C.IsSameOutside lo hi old new
 outside_holes lo hi bs old new laid same = record {
   below = same.same 0 lo (used_low lo hi bs laid);
-  above = rest_of old new hi same.long (same.same hi (length old - hi) (used_high lo hi bs laid (length old - hi)));
+  above = rest_of old new hi same.long (same.same hi _ (used_high lo hi bs laid _));
 }
 
 -- the same where a place inside the bounds is written too
 pub outside_but : (lo hi place n : ℕ) (bs cs : List Block) (old new : List ℕ) → IsLaid lo hi bs → IsLaid lo hi cs → lo ≤ place → place + n ≤ hi → C.AreSameBut place n (holes lo hi bs) (holes lo hi cs) old new → C.IsSameOutside lo hi old new
 outside_but lo hi place n bs cs old new one two from to same = record {
   below = same.same 0 lo (used_low lo hi bs one) (used_low lo hi cs two) (inl (omega arith));
-  above = rest_of old new hi same.long (same.same hi (length old - hi) (used_high lo hi bs one (length old - hi)) (used_high lo hi cs two (length old - hi)) (inr to));
+  above = rest_of old new hi same.long (same.same hi _ (used_high lo hi bs one _) (used_high lo hi cs two _) (inr to));
 }
 
 -- a part of a layout's range lies in each memory that has the range
 pub part_inside : {range then : Range} {now l : C.Layout} {at n a b d : ℕ} → C.IsPart then at n → then ≡ range → range ≡ C.range_of now → now ≡ l → l.hi ≤ a → b ≡ a → d ≡ b → at + n ≤ d
 part_inside part same ranged is high long longer =
-    let to = part.to in let one = ap (λ (r : Range). r.hi) (same ∙ ranged) in let two = ap (λ (m : C.Layout). m.hi) is in omega arith
+    let to = part.to in let one = ap (λ r. r.hi) (same ∙ ranged) in let two = ap (λ m. m.hi) is in omega arith

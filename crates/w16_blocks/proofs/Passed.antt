@@ -25,15 +25,15 @@ length_some lo hi a e [] are m = absurd m
 length_some lo hi a e (h ∷ hs) are m = elim (C.eqb_tells h.from a) [
   | inl same ↦ rw same.0 (let some = are.1 in omega arith)
   | inr other ↦ rw other.0 (elim m [
-    | inl first ↦ absurd (other.1 (ap (λ (s : Span). s.from) (sym first)))
-    | inr rest ↦ length_some (suc h.to) hi a e hs are.3 rest
+    | inl first ↦ absurd (other.1 (ap (λ s. s.from) (sym first)))
+    | inr rest ↦ length_some _ hi a e hs are.3 rest
   ])
 ]
 
 some_member : (a : ℕ) (hs : List Span) → 0 < length_at a hs → Member (record { from = a; to = a + length_at a hs }) hs
 some_member a [] some = absurd (omega arith)
 some_member a (h ∷ hs) some = elim (C.eqb_tells h.from a) [
-  | inl same ↦ inl (let long : 0 < h.to - h.from = rw same.0 at some in rw same.0 (whole long same.1))
+  | inl same ↦ inl (let long = rw same.0 at some in rw same.0 (whole long same.1))
   | inr other ↦ let past : length_at a (h ∷ hs) ≡ length_at a hs = rw other.0 refl in inr (subst (λ (n : ℕ). Member (record { from = a; to = a + n }) hs) (sym past) (some_member a hs (omega arith)))
 ]
   where

@@ -16,7 +16,7 @@ all_but_absent id (b ∷ bs) all = all_but_other id b bs (ne_eqb b.id id all.0) 
 
 -- the rest of a list whose first is the id's
 pub rest_differs : (cap id : ℕ) (b : Block) (bs : List Block) → b.id ≡ id → AreNamed cap (b ∷ bs) → AllByRecursion (λ c. c.id ≢ id) bs
-rest_differs cap id b bs same named = subst (λ (k : ℕ). AllByRecursion (λ c. c.id ≢ k) bs) same named.1
+rest_differs cap id b bs same named = subst (λ k. AllByRecursion (λ c. c.id ≢ k) bs) same named.1
 
 -- the id's block, or another first
 pub with_same : (id : ℕ) (b : Block) (bs : List Block) → (b.id == id) ≡ true → block_with (b ∷ bs) id ≡ Some b
@@ -29,7 +29,7 @@ with_other id b bs e = rw e refl
 pub none_with : (id : ℕ) (bs : List Block) → block_with bs id ≡ None → AllByRecursion (λ c. c.id ≢ id) bs
 none_with id [] none = tt
 none_with id (b ∷ bs) none = elim (eqb_tells b.id id) [
-  | inl same ↦ let some : Some b ≡ None = rw same.0 at none in cc
+  | inl same ↦ let some = rw same.0 at none in cc
   | inr other ↦ (other.1, none_with id bs (rw other.0 at none))
 ]
 
@@ -48,7 +48,7 @@ IsLaid-all_but low high id [] laid = laid
 IsLaid-all_but low high id (b ∷ bs) laid =
     let from = laid.0 in let size = laid.1 in
     elim (eqb_tells b.id id) [
-      | inl same ↦ rw same.0 (IsLaid-from low (block_end b) high (all_but id bs) (omega arith) (IsLaid-all_but (block_end b) high id bs laid.2))
+      | inl same ↦ rw same.0 (IsLaid-from low (block_end b) high _ (omega arith) (IsLaid-all_but _ high id bs laid.2))
       | inr other ↦ rw other.0 (from, size, IsLaid-all_but (block_end b) high id bs laid.2)
     ]
 
@@ -86,12 +86,12 @@ sum-all_but cap f id x [] named e = absurd (false≢true (ap is_some e))
 sum-all_but cap f id x (b ∷ bs) named e = elim (eqb_tells b.id id) [
   | inl same ↦
       let g : Some b ≡ Some x = sym (with_same id b bs same.0) ∙ e in let h : b ≡ x = cc in
-      let rest : all_but id (b ∷ bs) ≡ bs = all_but_same id b bs same.0 ∙ all_but_absent id bs (rest_differs cap id b bs same.1 named) in
-      sum_by-cons f b bs ∙ ap (λ (y : Block). f y + sum_by f bs) h ∙ ap (λ (ys : List Block). f x + sum_by f ys) (sym rest)
+      let rest = all_but_same id b bs same.0 ∙ all_but_absent id bs (rest_differs cap id b bs same.1 named) in
+      sum_by-cons f b bs ∙ ap (λ y. f y + sum_by f bs) h ∙ ap (λ ys. f x + sum_by f ys) (sym rest)
   | inr other ↦
       let ih = sum-all_but cap f id x bs named.2 (sym (with_other id b bs other.0) ∙ e) in
       let old = sum_by-cons f b bs in
-      let rest : sum_by f (all_but id (b ∷ bs)) ≡ f b + sum_by f (all_but id bs) = ap (sum_by f) (all_but_other id b bs other.0) ∙ sum_by-cons f b (all_but id bs) in
+      let rest = ap (sum_by f) (all_but_other id b bs other.0) ∙ sum_by-cons f b (all_but id bs) in
       omega arith
 ]
 
@@ -101,10 +101,10 @@ All-back cap P id x [] named e p all = tt
 All-back cap P id x (b ∷ bs) named e p all = elim (eqb_tells b.id id) [
   | inl same ↦
       let f : Some b ≡ Some x = sym (with_same id b bs same.0) ∙ e in let g : b ≡ x = cc in
-      let rest : all_but id (b ∷ bs) ≡ bs = all_but_same id b bs same.0 ∙ all_but_absent id bs (rest_differs cap id b bs same.1 named) in
+      let rest = all_but_same id b bs same.0 ∙ all_but_absent id bs (rest_differs cap id b bs same.1 named) in
       (subst P (sym g) p, subst (AllByRecursion P) rest all)
   | inr other ↦
-      let all' : AllByRecursion P (b ∷ all_but id bs) = subst (AllByRecursion P) (all_but_other id b bs other.0) all in
+      let all' = subst (AllByRecursion P) (all_but_other id b bs other.0) all in
       (all'.0, All-back cap P id x bs named.2 (sym (with_other id b bs other.0) ∙ e) p all'.1)
 ]
 
@@ -115,12 +115,12 @@ others_apart lo hi cap id x (b ∷ bs) laid named e =
     elim (eqb_tells b.id id) [
       | inl same ↦
           let f : Some b ≡ Some x = sym (with_same id b bs same.0) ∙ e in let g : b ≡ x = cc in
-          let rest : all_but id (b ∷ bs) ≡ bs = all_but_same id b bs same.0 ∙ all_but_absent id bs (rest_differs cap id b bs same.1 named) in
-          subst (AllByRecursion (IsApart x)) (sym rest) (subst (λ (y : Block). AllByRecursion (IsApart y) bs) g
-          (Each-map (λ y. (block_end b ≤ y.at) × (0 < y.size) × (block_end y ≤ hi)) (IsApart b) (λ y is. inl is.0) bs (laid_each (block_end b) hi bs laid.2)))
+          let rest = all_but_same id b bs same.0 ∙ all_but_absent id bs (rest_differs cap id b bs same.1 named) in
+          subst (AllByRecursion _) (sym rest) (subst (λ y. AllByRecursion (IsApart y) bs) g
+          (Each-map (λ y. (block_end b ≤ y.at) × (0 < y.size) × (block_end y ≤ hi)) _ (λ y is. inl is.0) bs (laid_each _ hi bs laid.2)))
       | inr other ↦
-          let e' : block_with bs id ≡ Some x = sym (with_other id b bs other.0) ∙ e in
-          let behind = (each_with (λ y. (block_end b ≤ y.at) × (0 < y.size) × (block_end y ≤ hi)) id x bs e' (laid_each (block_end b) hi bs laid.2)).0 in
+          let e' = sym (with_other id b bs other.0) ∙ e in
+          let behind = (each_with (λ y. (block_end b ≤ y.at) × (0 < y.size) × (block_end y ≤ hi)) id x bs e' (laid_each _ hi bs laid.2)).0 in
           subst (AllByRecursion (IsApart x)) (sym (all_but_other id b bs other.0)) (inr behind, others_apart (block_end b) hi cap id x bs laid.2 named.2 e')
     ]
 
@@ -139,13 +139,13 @@ replaced-itself lo hi cap x (b ∷ bs) laid named e =
     elim (eqb_tells b.id x.id) [
       | inl same ↦
           let f : Some b ≡ Some x = sym (with_same x.id b bs same.0) ∙ e in let g : b ≡ x = cc in
-          let rest : all_but x.id (b ∷ bs) ≡ bs = all_but_same x.id b bs same.0 ∙ all_but_absent x.id bs (rest_differs cap x.id b bs same.1 named) in
-          ap (placed x) rest ∙ placed_first x bs (Each-map (λ y. (block_end b ≤ y.at) × (0 < y.size) × (block_end y ≤ hi)) (λ y. x.at ≤ y.at) (λ y is. let from = is.0 in let place = ap (λ (c : Block). c.at) g in omega arith) bs (laid_each (block_end b) hi bs laid.2))
-          ∙ ap (λ (c : Block). c ∷ bs) (sym g)
+          let rest = all_but_same x.id b bs same.0 ∙ all_but_absent x.id bs (rest_differs cap x.id b bs same.1 named) in
+          ap (placed x) rest ∙ placed_first x bs (Each-map (λ y. (block_end b ≤ y.at) × (0 < y.size) × (block_end y ≤ hi)) (λ y. x.at ≤ y.at) (λ y is. let from = is.0 in let place = ap (λ c. c.at) g in omega arith) bs (laid_each _ hi bs laid.2))
+          ∙ ap (λ c. c ∷ bs) (sym g)
       | inr other ↦
-          let e' : block_with bs x.id ≡ Some x = sym (with_other x.id b bs other.0) ∙ e in
-          let behind = (each_with (λ y. (block_end b ≤ y.at) × (0 < y.size) × (block_end y ≤ hi)) x.id x bs e' (laid_each (block_end b) hi bs laid.2)).0 in
-          ap (placed x) (all_but_other x.id b bs other.0) ∙ placed_after x b (all_but x.id bs) (omega arith) ∙ ap (λ (cs : List Block). b ∷ cs) (replaced-itself (block_end b) hi cap x bs laid.2 named.2 e')
+          let e' = sym (with_other x.id b bs other.0) ∙ e in
+          let behind = (each_with (λ y. (block_end b ≤ y.at) × (0 < y.size) × (block_end y ≤ hi)) x.id x bs e' (laid_each _ hi bs laid.2)).0 in
+          ap (placed x) (all_but_other x.id b bs other.0) ∙ placed_after x b (all_but x.id bs) (omega arith) ∙ ap (λ cs. b ∷ cs) (replaced-itself (block_end b) hi cap x bs laid.2 named.2 e')
     ]
 
 -- a block that was found is its id's, and in its place the same block leaves the layout

@@ -15,18 +15,18 @@ pub with_back : (f : Block → Block) (x : Block) (bs : List Block) → ((c : Bl
 with_back f x [] ids back known = known
 with_back f x (b ∷ bs) ids back known = elim (C.eqb_tells (f b).id x.id) [
   | inl same ↦
-      let e : Some (f b) ≡ Some x = sym (with_same x.id (f b) (map f bs) same.0) ∙ known in let there : f b ≡ x = cc in
+      let e : Some (f b) ≡ Some x = sym (with_same x.id (f b) _ same.0) ∙ known in let there : f b ≡ x = cc in
       with_same x.id b bs (eq-eqb b.id x.id (sym (ids b) ∙ same.1)) ∙ ap Some (back b there)
   | inr other ↦
-      with_other x.id b bs (ap (λ (i : ℕ). eqb i x.id) (sym (ids b)) ∙ other.0) ∙ with_back f x bs ids back (sym (with_other x.id (f b) (map f bs) other.0) ∙ known)
+      with_other x.id b bs (ap (λ i. eqb i x.id) (sym (ids b)) ∙ other.0) ∙ with_back f x bs ids back (sym (with_other x.id (f b) _ other.0) ∙ known)
 ]
 
 pub slid_id : (run : Span) (to : ℕ) (b : Block) → (slid_with run to b).id ≡ b.id
-slid_id run to b = elim (cases_lt b.at run.from) [
-  | inl below ↦ ap (λ (c : Block). c.id) (slid_below run to b below)
+slid_id run to b = elim (cases_lt b.at _) [
+  | inl below ↦ ap (λ c. c.id) (slid_below run to b below)
   | inr from ↦ elim (cases_lt b.at run.to) [
-    | inl inside ↦ ap (λ (c : Block). c.id) (slid_inside run to b from inside)
-    | inr above ↦ ap (λ (c : Block). c.id) (slid_above run to b above)
+    | inl inside ↦ ap (λ c. c.id) (slid_inside run to b from inside)
+    | inr above ↦ ap (λ c. c.id) (slid_above run to b above)
   ]
 ]
 
@@ -35,7 +35,7 @@ pub cuts_each : (lo hi cap : ℕ) (x : Block) (bs : List Block) → C.IsLaid lo 
 cuts_each lo hi cap x bs laid all = C.Each-map (λ c. (block_end c ≤ x.at) ⊎ ((block_end x ≤ c.at) ⊎ (c ≡ x))) (λ c. (block_end c ≤ x.at) ⊎ (x.at ≤ c.at))
     (λ c is. elim is [
       | inl before ↦ inl before
-      | inr other ↦ elim other [ inl behind ↦ inr (omega arith) | inr same ↦ let at = ap (λ (d : Block). d.at) same in inr (omega arith) ]
+      | inr other ↦ elim other [ inl behind ↦ inr (omega arith) | inr same ↦ let at = ap (λ d. d.at) same in inr (omega arith) ]
     ]) bs all
 
 -- Of a run the blocks from `at` on have slid; the last one before them is x.
@@ -171,12 +171,12 @@ module _ (l : Layout) (ordered : IsOrdered l) (ids : l.cap < 2 ^ 32) (run : Span
 pub none_before : (l : Layout) (ordered : IsOrdered l) (run : Span) (is : IsRun l run) (at to : ℕ) → run.from < at → at ≤ run.to → AllByRecursion (λ b. at ≤ b.at) (map (slid_with (record { from = at; to = run.to }) to) l.blocks) → ⊥
 none_before l ordered run is at to from end all =
     let bottom = is.inside.0 in let top = is.inside.2 in
-    is.full run.from (omega arith) (omega arith) (lacks_free run.from l.lo l.hi l.blocks ordered.laid bottom (omega arith)
-    (All-unmapped (λ y. (l.lo ≤ y.at) × (0 < y.size) × (block_end y ≤ l.hi)) (Lacks run.from) (λ b. at ≤ b.at) (slid_with (record { from = at; to = run.to }) to)
+    is.full _ (omega arith) (omega arith) (lacks_free _ l.lo l.hi _ ordered.laid bottom (omega arith)
+    (All-unmapped (λ y. (l.lo ≤ y.at) × (0 < y.size) × (block_end y ≤ l.hi)) _ (λ b. at ≤ b.at) (slid_with (record { from = at; to = run.to }) to)
     (λ c _ told. elim (cases_lt c.at at) [
-      | inl less ↦ let le = subst (λ (d : Block). at ≤ d.at) (slid_below (record { from = at; to = run.to }) to c less) told in absurd (omega arith)
+      | inl less ↦ let le = subst (λ d. at ≤ d.at) (slid_below (record { from = at; to = run.to }) to c less) told in absurd (omega arith)
       | inr ge ↦ inl (omega arith)
-    ]) l.blocks (laid_each l.lo l.hi l.blocks ordered.laid) all))
+    ]) _ (laid_each l.lo l.hi _ ordered.laid) all))
 
 -- a run with the block that ends where it begins
 pub run_before : (l : Layout) (begin to : ℕ) (x : Block) → IsOrdered l → block_with l.blocks x.id ≡ Some x → block_end x ≡ begin → IsRun l (record { from = begin; to = to }) → IsRun l (record { from = x.at; to = to })
@@ -185,7 +185,7 @@ run_before l begin to x ordered known here is =
     record {
       inside = (low, omega arith, is.inside.2);
       grained = ((grained_known l x.id x known ordered).0, is.grained.1);
-      whole = (cuts_each l.lo l.hi l.cap x l.blocks ordered.laid (around l.lo l.hi l.cap x l.blocks ordered.laid ordered.named known), is.whole.1);
+      whole = (cuts_each l.lo l.hi l.cap x _ ordered.laid (around l.lo l.hi l.cap x _ ordered.laid ordered.named known), is.whole.1);
       full = λ p from below free. elim (cases_lt p begin) [
         | inl before ↦ elim (lacks_known l x.id x known ordered p free) [ inl k ↦ absurd (omega arith) | inr k ↦ absurd (omega arith) ]
         | inr above ↦ is.full p above below free
@@ -199,11 +199,11 @@ none_ends l at x ordered is less = Each-both (λ c. ((c.at ≤ x.at) ⊎ (at ≤
       | inr over ↦ omega arith
       | inl under ↦ elim place [
         | inl before ↦ omega arith
-        | inr other ↦ elim other [ inl behind ↦ let some = (lies l x.id x is.known ordered).1 in omega arith | inr same ↦ let place = ap (λ (d : Block). d.at) same in let long = ap (λ (d : Block). d.size) same in omega arith ]
+        | inr other ↦ elim other [ inl behind ↦ let some = (lies l x.id x is.known ordered).1 in omega arith | inr same ↦ let place = ap (λ d. d.at) same in let long = ap (λ d. d.size) same in omega arith ]
       ]
-    ]) l.blocks
-    (Each-both (λ c. (c.at ≤ x.at) ⊎ (at ≤ c.at)) (λ c. (l.lo ≤ c.at) × (0 < c.size) × (block_end c ≤ l.hi)) (λ c. ((c.at ≤ x.at) ⊎ (at ≤ c.at)) × ((l.lo ≤ c.at) × (0 < c.size) × (block_end c ≤ l.hi))) (λ c one two. (one, two)) l.blocks is.last (laid_each l.lo l.hi l.blocks ordered.laid))
-    (around l.lo l.hi l.cap x l.blocks ordered.laid ordered.named is.known)
+    ]) _
+    (Each-both (λ c. (c.at ≤ x.at) ⊎ (at ≤ c.at)) (λ c. (l.lo ≤ c.at) × (0 < c.size) × (block_end c ≤ l.hi)) (λ c. ((c.at ≤ x.at) ⊎ (at ≤ c.at)) × ((l.lo ≤ c.at) × (0 < c.size) × (block_end c ≤ l.hi))) (λ c one two. (one, two)) _ is.last (laid_each l.lo l.hi _ ordered.laid))
+    (around l.lo l.hi l.cap x _ ordered.laid ordered.named is.known)
 
 pub none_ends_low : (l : Layout) (at : ℕ) → IsOrdered l → AllByRecursion (λ b. at ≤ b.at) l.blocks → AllByRecursion (λ b. block_end b ≢ at) l.blocks
-none_ends_low l at ordered all = Each-both (λ b. at ≤ b.at) (λ c. (l.lo ≤ c.at) × (0 < c.size) × (block_end c ≤ l.hi)) (λ b. block_end b ≢ at) (λ c one two e. let size = two.1 in omega arith) l.blocks all (laid_each l.lo l.hi l.blocks ordered.laid)
+none_ends_low l at ordered all = Each-both (λ b. at ≤ b.at) (λ c. (l.lo ≤ c.at) × (0 < c.size) × (block_end c ≤ l.hi)) (λ b. block_end b ≢ at) (λ c one two e. let size = two.1 in omega arith) _ all (laid_each l.lo l.hi _ ordered.laid)

@@ -93,7 +93,7 @@ way_down l run is some to apart down low bare grained least =
           (λ b one two. elim one [
             | inl under ↦ inr (inl under)
             | inr over ↦ elim two [ inl end ↦ inl (over, end) | inr behind ↦ inr (inr (omega arith)) ]
-          ]) l.blocks bare is.whole.1;
+          ]) _ bare is.whole.1;
       grained = (grained, multiple_less l.grain run.to apart is.grained.1 part, part);
     }
 
@@ -121,20 +121,20 @@ way_up l run is some to apart up high bare grained least =
           (λ b one two. elim one [
             | inl under ↦ elim two [ inl before ↦ inr (inl (omega arith)) | inr from ↦ inl (from, under) ]
             | inr over ↦ inr (inr over)
-          ]) l.blocks bare is.whole.0;
-      grained = (multiple_less l.grain (to + (run.to - run.from)) apart (C.multiple_sum l.grain to (run.to - run.from) grained (multiple_less l.grain run.to run.from is.grained.1 is.grained.0)) part, is.grained.0, part);
+          ]) _ bare is.whole.0;
+      grained = (multiple_less l.grain _ apart (C.multiple_sum l.grain to _ grained (multiple_less l.grain run.to _ is.grained.1 is.grained.0)) part, is.grained.0, part);
     }
 
 -- where no block is there is one hole
 pub bare_free : (l : Layout) → C.IsOrdered l → (from to : ℕ) → l.lo ≤ from → from < to → to ≤ l.hi → IsBare from to l.blocks → C.IsFree from to (holes_of l)
 bare_free l ordered from to low some high bare =
-    free_of from to l.lo l.hi (holes_of l) some (AreHoles-holes l.lo l.lo l.hi l.blocks (omega arith) ordered.laid)
-    (λ p ge lt. lacks_free p l.lo l.hi l.blocks ordered.laid (omega arith) (omega arith)
-    (C.Each-map (λ b. (block_end b ≤ from) ⊎ (to ≤ b.at)) (Lacks p) (λ b out. elim out [ inl before ↦ inr (omega arith) | inr behind ↦ inl (omega arith) ]) l.blocks bare))
+    free_of from to l.lo l.hi _ some (AreHoles-holes l.lo l.lo l.hi _ (omega arith) ordered.laid)
+    (λ p ge lt. lacks_free p l.lo l.hi _ ordered.laid (omega arith) (omega arith)
+    (C.Each-map (λ b. (block_end b ≤ from) ⊎ (to ≤ b.at)) _ (λ b out. elim out [ inl before ↦ inr (omega arith) | inr behind ↦ inl (omega arith) ]) _ bare))
 
 -- a run's bytes are a part of the range, and so are they at another place in it
 pub run_part : (l : Layout) (run : Span) → IsRun l run → run.from < run.to → (at : ℕ) → l.lo ≤ at → at + (run.to - run.from) ≤ l.hi → IsMultiple l.grain at → IsPart (range_of l) at (run.to - run.from)
-run_part l run is some at low high grained = record { some = omega arith; from = low; to = high; grained = grained; rounded = multiple_less l.grain run.to run.from is.grained.1 is.grained.0 }
+run_part l run is some at low high grained = record { some = omega arith; from = low; to = high; grained = grained; rounded = multiple_less l.grain run.to _ is.grained.1 is.grained.0 }
 
 module _ (l : Layout) (ordered : C.IsOrdered l) (run : Span) (is : IsRun l run) (some : run.from < run.to) (to a c apart : ℕ) (way : IsWay l run to a c apart) where
   abbrev size : ℕ

@@ -12,7 +12,7 @@ pub slid_below : (run : Span) (to : ℕ) (b : Block) → b.at < run.from → sli
 slid_below run to b lt = rw (C.lt-leb run.from b.at lt) refl
 
 pub slid_above : (run : Span) (to : ℕ) (b : Block) → run.to ≤ b.at → slid_with run to b ≡ b
-slid_above run to b le = elim (cases_lt b.at run.from) [
+slid_above run to b le = elim (cases_lt b.at _) [
   | inl lt ↦ slid_below run to b lt
   | inr ge ↦ rw (C.le-leb run.from b.at ge, C.le-ltb b.at run.to le) refl
 ]
@@ -22,7 +22,7 @@ slid_inside run to b le lt = rw (C.le-leb run.from b.at le, C.lt-ltb b.at run.to
 
 -- one that slides to where its run's first byte does
 pub moved_to : (b : Block) (p q : ℕ) → p ≡ q → record b { at = p } ≡ record b { at = q }
-moved_to b p q e = ap (λ (at : ℕ). let r : Block = record b { at = at } in r) e
+moved_to b p q e = ap (λ at. let r : Block = record b { at = at } in r) e
 
 pub map-same : (f : Block → Block) (bs : List Block) → AllByRecursion (λ b. f b ≡ b) bs → map f bs ≡ bs
 map-same f [] all = refl
@@ -80,18 +80,18 @@ replaced-slid lo hi cap to x (b ∷ bs) laid named e all =
     elim (C.eqb_tells b.id x.id) [
       | inl same ↦
           let f : Some b ≡ Some x = sym (M.with_same x.id b bs same.0) ∙ e in let g : b ≡ x = cc in
-          let place = ap (λ (c : Block). c.at) g in let long = ap (λ (c : Block). c.size) g in
-          let rest : all_but x.id (b ∷ bs) ≡ bs = M.all_but_same x.id b bs same.0 ∙ M.all_but_absent x.id bs (M.rest_differs cap x.id b bs same.1 named) in
-          let behind = Each-both (λ y. (block_end b ≤ y.at) × (0 < y.size) × (block_end y ≤ hi)) (IsAround x.at to) (λ y. (block_end x ≤ y.at) × (to ≤ y.at))
-          (λ y is past. let from = is.0 in (omega arith, past.1 (omega arith))) bs (laid_each (block_end b) hi bs laid.2) all.1 in
+          let place = ap (λ c. c.at) g in let long = ap (λ c. c.size) g in
+          let rest = M.all_but_same x.id b bs same.0 ∙ M.all_but_absent x.id bs (M.rest_differs cap x.id b bs same.1 named) in
+          let behind = Each-both (λ y. (block_end b ≤ y.at) × (0 < y.size) × (block_end y ≤ hi)) _ (λ y. (block_end x ≤ y.at) × (to ≤ y.at))
+          (λ y is past. let from = is.0 in (omega arith, past.1 (omega arith))) bs (laid_each _ hi bs laid.2) all.1 in
           ap (placed (record x { at = to })) rest
           ∙ placed_first (record x { at = to }) bs (Each-map (λ y. (block_end x ≤ y.at) × (to ≤ y.at)) (λ y. to ≤ y.at) (λ y is. is.1) bs behind)
           ∙ (λ i. (moved_to x to (to + (x.at - x.at)) (omega arith) ∙ sym (slid_inside run to x (omega arith) (omega arith)) ∙ ap (slid_with run to) (sym g)) i
-          ∷ sym (map-same (slid_with run to) bs (Each-map (λ y. (block_end x ≤ y.at) × (to ≤ y.at)) (λ y. slid_with run to y ≡ y) (λ y is. slid_above run to y is.0) bs behind)) i)
+          ∷ sym (map-same _ bs (Each-map (λ y. (block_end x ≤ y.at) × (to ≤ y.at)) (λ y. slid_with run to y ≡ y) (λ y is. slid_above run to y is.0) bs behind)) i)
       | inr other ↦
-          let e' : block_with bs x.id ≡ Some x = sym (M.with_other x.id b bs other.0) ∙ e in
-          let behind = (each_with (λ y. (block_end b ≤ y.at) × (0 < y.size) × (block_end y ≤ hi)) x.id x bs e' (laid_each (block_end b) hi bs laid.2)).0 in
-          ap (placed (record x { at = to })) (M.all_but_other x.id b bs other.0) ∙ placed_after (record x { at = to }) b (all_but x.id bs) (all.0.0 (omega arith) size)
+          let e' = sym (M.with_other x.id b bs other.0) ∙ e in
+          let behind = (each_with (λ y. (block_end b ≤ y.at) × (0 < y.size) × (block_end y ≤ hi)) x.id x bs e' (laid_each _ hi bs laid.2)).0 in
+          ap (placed (record x { at = to })) (M.all_but_other x.id b bs other.0) ∙ placed_after (record x { at = to }) b _ (all.0.0 (omega arith) size)
           ∙ (λ i. sym (slid_below run to b (omega arith)) i ∷ replaced-slid (block_end b) hi cap to x bs laid.2 named.2 e' all.1 i)
     ]
 
@@ -101,7 +101,7 @@ IsReady run to at c = (block_end c ≤ to + (at - run.from)) ⊎ ((at ≤ c.at) 
 
 pub ready_start : (run : Span) (to : ℕ) (bs : List Block) → C.IsBare to run.from bs → IsCut run.to bs → AllByRecursion (IsReady run to run.from) bs
 ready_start run to bs bare cut =
-    Each-both (λ b. (block_end b ≤ to) ⊎ (run.from ≤ b.at)) (λ b. (block_end b ≤ run.to) ⊎ (run.to ≤ b.at)) (IsReady run to run.from)
+    Each-both (λ b. (block_end b ≤ to) ⊎ (run.from ≤ b.at)) (λ b. (block_end b ≤ run.to) ⊎ (run.to ≤ b.at)) _
     (λ b one two. elim one [ inl below ↦ inl (omega arith) | inr above ↦ inr (omega arith, two) ]) bs bare cut
 
 pub named_each : (cap : ℕ) (bs : List Block) → C.AreNamed cap bs → AllByRecursion (λ c. c.id < cap) bs
@@ -175,11 +175,11 @@ run_more l from end x ordered known here is =
               | inl below ↦ inl (omega arith)
               | inr above ↦ elim apart [ inl behind ↦ inr (omega arith) | inr before ↦ absurd (omega arith) ]
             ])
-            (all_but x.id l.blocks)
+            (all_but x.id _)
             (M.All-all_but (λ b. ((block_end b ≤ end) ⊎ (end ≤ b.at)) × (0 < b.size)) x.id l.blocks
             (Each-both (λ b. (block_end b ≤ end) ⊎ (end ≤ b.at)) (λ b. (l.lo ≤ b.at) × (0 < b.size) × (block_end b ≤ l.hi)) (λ b. ((block_end b ≤ end) ⊎ (end ≤ b.at)) × (0 < b.size)) (λ b one two. (one, two.1)) l.blocks is.whole.1
-            (laid_each l.lo l.hi l.blocks ordered.laid)))
-            (M.others_apart l.lo l.hi l.cap x.id x l.blocks ordered.laid ordered.named known)),
+            (laid_each l.lo l.hi _ ordered.laid)))
+            (M.others_apart l.lo l.hi l.cap x.id x _ ordered.laid ordered.named known)),
       );
       full = λ p low high free. elim (cases_lt p end) [
         | inl below ↦ is.full p low below free
@@ -189,4 +189,4 @@ run_more l from end x ordered known here is =
 
 -- a block that begins below a cut ends there at the latest
 pub ends_below : (l : Layout) (high : ℕ) (x : Block) → block_with l.blocks x.id ≡ Some x → IsCut high l.blocks → x.at < high → block_end x ≤ high
-ends_below l high x known cut lt = elim (each_with (λ b. (block_end b ≤ high) ⊎ (high ≤ b.at)) x.id x l.blocks known cut) [ inl end ↦ end | inr past ↦ absurd (omega arith) ]
+ends_below l high x known cut lt = elim (each_with (λ b. (block_end b ≤ high) ⊎ (high ≤ b.at)) x.id x _ known cut) [ inl end ↦ end | inr past ↦ absurd (omega arith) ]

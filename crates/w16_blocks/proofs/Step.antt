@@ -12,9 +12,9 @@ pub All-first : (P : Block → Type 0) (b : Block) (bs : List Block) → AllByRe
 All-first P b [] all = (all.0, tt)
 All-first P b (c ∷ cs) all = elim (cases_lt c.at b.at) [
   | inl lt ↦
-      let all' : AllByRecursion P (c ∷ placed b cs) = subst (AllByRecursion P) (placed_after b c cs lt) all in
+      let all' = subst (AllByRecursion P) (placed_after b c cs lt) all in
       let rest = All-first P b cs all'.1 in (rest.0, (all'.0, rest.1))
-  | inr le ↦ let all' : AllByRecursion P (b ∷ c ∷ cs) = subst (AllByRecursion P) (placed_before b c cs le) all in (all'.0, all'.1)
+  | inr le ↦ let all' = subst (AllByRecursion P) (placed_before b c cs le) all in (all'.0, all'.1)
 ]
 
 -- a block that is added
@@ -119,9 +119,9 @@ module _ (l : Layout) (b x : Block) (known : block_with l.blocks b.id ≡ Some x
 pub fits_itself : (l : Layout) (x : Block) (hold : Hold) → x.id < l.cap → block_with l.blocks x.id ≡ Some x → IsOrdered l → FitsFor l (record x { hold = hold })
 fits_itself l x hold lt known ordered = record {
   id = lt;
-  free = others_differ x.id l.blocks;
+  free = others_differ x.id _;
   inside = lies l x.id x known ordered;
-  apart = others_apart l.lo l.hi l.cap x.id x l.blocks ordered.laid ordered.named known;
+  apart = others_apart l.lo l.hi l.cap x.id x _ ordered.laid ordered.named known;
   grained = grained_known l x.id x known ordered;
 }
 

@@ -201,7 +201,7 @@ module _ {cap lo hi g : ℕ} {slots : List Block} {cells : List ℕ} (t : AreTab
 
 -- in the same unit no cell changes
 pub same_cells : (cells : List ℕ) (u id : ℕ) → slice_index cells u ≡ suc id → set (set cells u 0) u (suc id) ≡ cells
-same_cells cells u id tells = set-set cells u 0 (suc id) ∙ ap (set cells u) (sym tells) ∙ C.set-get_or cells u 0
+same_cells cells u id tells = set-set cells u 0 _ ∙ ap (set cells u) (sym tells) ∙ C.set-get_or cells u 0
 
 -- tables that tell no block
 pub blocks_in-none : (slots : List Block) (cells : List ℕ) → ((k : ℕ) → slice_index cells k ≡ 0) → blocks_in slots cells ≡ []

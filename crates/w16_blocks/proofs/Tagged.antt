@@ -44,14 +44,14 @@ none_off l place ordered some out =
     C.Each-both (λ b. (l.lo ≤ b.at) × (0 < b.size) × (C.block_end b ≤ l.hi)) (C.IsGrained l.grain) (λ b. b.at ≢ place)
     (λ b lies grained e. let low = lies.0 in let high = lies.2 in let m = grained.0 in
     out (omega arith) (omega arith) (ap (λ n. n % l.grain) (let whole : place ≡ m.0 * l.grain + 0 = let times = m.1 in omega arith in whole) ∙ mod-mul-add m.0 l.grain 0 some))
-    l.blocks (C.laid_each l.lo l.hi l.blocks ordered.laid) ordered.grained
+    l.blocks (C.laid_each l.lo l.hi _ ordered.laid) ordered.grained
 
 -- a block that lent tables tell is the layout's
 pub known_by : {cap lo hi g : ℕ} {slots slots' : List Block} {cells cells' : List ℕ} {l : Layout} (x : Block) → C.layout_in cap lo hi g slots cells ≡ l → slots' ≡ slots → cells' ≡ cells → block_with (blocks_in slots' cells') x.id ≡ Some x → block_with l.blocks x.id ≡ Some x
 known_by {cap} {lo} {hi} {g} {slots} {slots'} {cells} {cells'} x is one two known =
-    ap (λ (m : Layout). block_with m.blocks x.id) (sym is) ∙ ap (λ (ss : List Block). block_with (blocks_in ss cells) x.id) (sym one) ∙ ap (λ (cs : List ℕ). block_with (blocks_in slots' cs) x.id) (sym two) ∙ known
+    ap (λ m. block_with m.blocks x.id) (sym is) ∙ ap (λ ss. block_with (blocks_in ss cells) x.id) (sym one) ∙ ap (λ cs. block_with (blocks_in slots' cs) x.id) (sym two) ∙ known
 
 -- and what holds of all that they tell holds of all that it has
 pub all_by : {cap lo hi g : ℕ} {slots slots' : List Block} {cells cells' : List ℕ} {l : Layout} (P : Block → Type 0) → C.layout_in cap lo hi g slots cells ≡ l → slots' ≡ slots → cells' ≡ cells → AllByRecursion P (blocks_in slots' cells') → AllByRecursion P l.blocks
 all_by {cap} {lo} {hi} {g} {slots} {slots'} {cells} {cells'} P is one two all =
-    subst (λ (m : Layout). AllByRecursion P m.blocks) is (subst (λ (ss : List Block). AllByRecursion P (blocks_in ss cells)) one (subst (λ (cs : List ℕ). AllByRecursion P (blocks_in slots' cs)) two all))
+    subst (λ m. AllByRecursion P m.blocks) is (subst (λ ss. AllByRecursion P (blocks_in ss cells)) one (subst (λ cs. AllByRecursion P (blocks_in slots' cs)) two all))

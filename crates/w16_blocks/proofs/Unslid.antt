@@ -6,11 +6,11 @@ use Rattle.w16_blocks.proofs.{RunHoles.All-unmapped, Rising.with_back, Rising.sl
 pub unslid : (from at to : ℕ) (x : Block) (old now : List Block) → to ≤ from → from ≤ at → at ≤ x.at → now ≡ map (slid_with (record { from = from; to = at }) to) old → block_with now x.id ≡ Some x → block_with old x.id ≡ Some x
 unslid from at to x old now down up behind is known =
     let run : Span = record { from = from; to = at } in
-    with_back (slid_with run to) x old (slid_id run to)
+    with_back _ x old (slid_id run to)
     (λ c e. elim (cases_lt c.at from) [
       | inl below ↦ sym (slid_below run to c below) ∙ e
       | inr ge ↦ elim (cases_lt c.at at) [
-        | inl lt ↦ let there = ap (λ (d : Block). d.at) (sym (slid_inside run to c ge lt) ∙ e) in absurd (omega arith)
+        | inl lt ↦ let there = ap (λ d. d.at) (sym (slid_inside run to c ge lt) ∙ e) in absurd (omega arith)
         | inr past ↦ sym (slid_above run to c past) ∙ e
       ]
     ])
@@ -20,8 +20,8 @@ unslid from at to x old now down up behind is known =
 pub none_unslid : (l : Layout) → IsOrdered l → (from at to : ℕ) → to ≤ from → from ≤ at → AllByRecursion (λ b. b.at ≢ at) (map (slid_with (record { from = from; to = at }) to) l.blocks) → AllByRecursion (λ b. b.at ≢ at) l.blocks
 none_unslid l ordered from at to down up none =
     All-unmapped (λ y. (l.lo ≤ y.at) × (0 < y.size) × (block_end y ≤ l.hi)) (λ b. b.at ≢ at) (λ b. b.at ≢ at) (slid_with (record { from = from; to = at }) to)
-    (λ c _ told here. told (ap (λ (d : Block). d.at) (slid_above (record { from = from; to = at }) to c (omega arith)) ∙ here))
-    l.blocks (laid_each l.lo l.hi l.blocks ordered.laid) none
+    (λ c _ told here. told (ap (λ d. d.at) (slid_above (record { from = from; to = at }) to c (omega arith)) ∙ here))
+    _ (laid_each l.lo l.hi _ ordered.laid) none
 
 -- a run has bytes where a block begins it
 pub has_bytes : (bs : List Block) (from high end : ℕ) → from < high → from ≤ end → (end ≡ high) ⊎ AllByRecursion (λ b. b.at ≢ end) bs → (AllByRecursion (λ b. b.at ≢ from) bs → ⊥) → from < end
@@ -29,6 +29,6 @@ has_bytes bs from high end lt le last begins = elim last [
   | inl top ↦ omega arith
   | inr none ↦ elim (cases_lt from end) [
     | inl less ↦ less
-    | inr more ↦ absurd (begins (subst (λ (p : ℕ). AllByRecursion (λ b. b.at ≢ p) bs) (let same : end ≡ from = omega arith in same) none))
+    | inr more ↦ absurd (begins (subst (λ p. AllByRecursion (λ b. b.at ≢ p) bs) (let same : end ≡ from = omega arith in same) none))
   ]
 ]

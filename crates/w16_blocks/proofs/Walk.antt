@@ -22,32 +22,32 @@ pub one_more : (lo hi at : ℕ) (x : Block) (bs : List Block) → C.IsLaid lo hi
 one_more lo hi at x [] laid e = absurd (false≢true (sym (ap is_some e)))
 one_more lo hi at x (b ∷ bs) laid e =
     let size = laid.1 in
-    let later = laid_each (block_end b) hi bs laid.2 in
+    let later = laid_each _ hi bs laid.2 in
     elim (C.cases_lt b.at at) [
       | inl lt ↦
-          let e' : Some x ≡ slice_get bs (rank at bs) = e ∙ ap (slice_get (b ∷ bs)) (rank_more at b bs lt) in
+          let e' = e ∙ ap (slice_get (b ∷ bs)) (rank_more at b bs lt) in
           let behind = (each_got (λ y. (block_end b ≤ y.at) × (0 < y.size) × (block_end y ≤ hi)) bs (rank at bs) x e' later).0 in
-          ap (λ (n : ℕ). drop n (b ∷ bs)) (rank_more at b bs lt) ∙ one_more (block_end b) hi at x bs laid.2 e'
-          ∙ ap (λ (n : ℕ). x ∷ drop n (b ∷ bs)) (sym (rank_more (block_end x) b bs (omega arith)))
+          ap (λ n. drop n (b ∷ bs)) (rank_more at b bs lt) ∙ one_more (block_end b) hi at x bs laid.2 e'
+          ∙ ap (λ n. x ∷ drop n (b ∷ bs)) (sym (rank_more _ b bs (omega arith)))
       | inr ge ↦
           let first : Some x ≡ Some b = e ∙ ap (slice_get (b ∷ bs)) (rank_same at b bs ge) in let same : b ≡ x = cc in
           let rest : rank (block_end b) (b ∷ bs) ≡ 1 =
-          rank_more (block_end b) b bs (omega arith) ∙ ap suc (rank_none (block_end b) bs (C.Each-map (λ y. (block_end b ≤ y.at) × (0 < y.size) × (block_end y ≤ hi)) (λ c. block_end b ≤ c.at) (λ y is. is.0) bs later)) in
-          ap (λ (n : ℕ). drop n (b ∷ bs)) (rank_same at b bs ge) ∙ ap (λ (n : ℕ). b ∷ drop n (b ∷ bs)) (sym rest) ∙ ap (λ (y : Block). y ∷ from_address (block_end y) (b ∷ bs)) same
+          rank_more _ b bs (omega arith) ∙ ap suc (rank_none _ bs (C.Each-map (λ y. (block_end b ≤ y.at) × (0 < y.size) × (block_end y ≤ hi)) (λ c. block_end b ≤ c.at) (λ y is. is.0) bs later)) in
+          ap (λ n. drop n (b ∷ bs)) (rank_same at b bs ge) ∙ ap (λ n. b ∷ drop n (b ∷ bs)) (sym rest) ∙ ap (λ y. y ∷ from_address (block_end y) (b ∷ bs)) same
     ]
 
 -- it ends below the largest number
 pub ends_small : (l : C.Layout) (at : ℕ) (x : Block) → C.IsOrdered l → Some x ≡ slice_get l.blocks (rank at l.blocks) → block_end x ≤ l.hi
-ends_small l at x ordered e = (each_got (λ y. (l.lo ≤ y.at) × (0 < y.size) × (block_end y ≤ l.hi)) l.blocks (rank at l.blocks) x e (laid_each l.lo l.hi l.blocks ordered.laid)).2
+ends_small l at x ordered e = (each_got (λ y. (l.lo ≤ y.at) × (0 < y.size) × (block_end y ≤ l.hi)) l.blocks (rank at _) x e (laid_each l.lo l.hi _ ordered.laid)).2
 
 -- a block is the first from where it begins
 pub first_at : (lo hi : ℕ) (x : Block) (bs : List Block) → C.IsLaid lo hi bs → C.block_with bs x.id ≡ Some x → slice_get bs (rank x.at bs) ≡ Some x
 first_at lo hi x [] laid known = absurd (false≢true (ap is_some known))
 first_at lo hi x (b ∷ bs) laid known = elim (C.eqb_tells b.id x.id) [
   | inl same ↦ let own : Some b ≡ Some x = rw same.0 at known in let is : b ≡ x = cc in
-      ap (slice_get (b ∷ bs)) (rank_same x.at b bs (let at = ap (λ (c : Block). c.at) is in omega arith)) ∙ own
+      ap (slice_get (b ∷ bs)) (rank_same x.at b bs (let at = ap (λ c. c.at) is in omega arith)) ∙ own
   | inr other ↦
       let rest = sym (with_other x.id b bs other.0) ∙ known in
-      let behind = each_with (λ y. (block_end b ≤ y.at) × (0 < y.size) × (block_end y ≤ hi)) x.id x bs rest (laid_each (block_end b) hi bs laid.2) in
+      let behind = each_with (λ y. (block_end b ≤ y.at) × (0 < y.size) × (block_end y ≤ hi)) x.id x bs rest (laid_each _ hi bs laid.2) in
       let size = laid.1 in ap (slice_get (b ∷ bs)) (rank_more x.at b bs (omega arith)) ∙ first_at (block_end b) hi x bs laid.2 rest
 ]

@@ -14,7 +14,7 @@ size_of b = b.size
 
 pub each_loose : (xs : List Block) → list_any is_pinned xs ≡ false → Each (λ x. is_pinned x ≡ false) xs
 each_loose [] none = tt
-each_loose (x ∷ xs) none = let both = neither (is_pinned x) (list_any is_pinned xs) none in (both.0, each_loose xs both.1)
+each_loose (x ∷ xs) none = let both = neither _ _ none in (both.0, each_loose xs both.1)
   where
     neither : (s t : Bool) → (s || t) ≡ false → (s ≡ false) × (t ≡ false)
     neither true t e = absurd (false≢true (sym e))
@@ -23,11 +23,11 @@ each_loose (x ∷ xs) none = let both = neither (is_pinned x) (list_any is_pinne
 -- so there is none with a block left out
 pub none_in : (h : Option ℕ) (xs : List Block) → list_any is_pinned xs ≡ false → list_any is_pinned (C.others h xs) ≡ false
 none_in None xs none = none
-none_in (Some id) xs none = back (C.others (Some id) xs) (Each-filter _ _ xs (Each-map _ _ (λ x f t. f) xs (each_loose xs none)))
+none_in (Some id) xs none = back _ (Each-filter _ _ xs (Each-map _ _ (λ x f t. f) xs (each_loose xs none)))
   where
     back : (ys : List Block) → Each (λ x. is_pinned x ≡ false) ys → list_any is_pinned ys ≡ false
     back [] all = refl
-    back (y ∷ ys) all = ap (λ (t : Bool). t || list_any is_pinned ys) all.0 ∙ back ys all.1
+    back (y ∷ ys) all = ap (λ t. t || list_any is_pinned ys) all.0 ∙ back ys all.1
 
 -- the walk over all of them
 module _ (l : C.Layout) (n : ℕ) (ordered : C.IsOrdered l) where
@@ -104,10 +104,10 @@ pub left_none : (xs : List Block) → 0 + sum_by size_of (blocks_without xs [] N
 left_none xs = let same = ap (sum_by size_of) (none_out_all xs) in omega arith
 
 pub left_absent : (id : ℕ) (xs : List Block) → Each (λ x. x.id ≢ id) xs → 0 + sum_by size_of (blocks_without xs [] (Some id)) ≡ sum_by size_of xs
-left_absent id xs all = let same : sum_by size_of (C.all_but id xs) ≡ sum_by size_of xs = ap (sum_by size_of) (C.all_but_absent id xs all) in omega arith
+left_absent id xs all = let same = ap (sum_by size_of) (C.all_but_absent id xs all) in omega arith
 
 pub left_other : (cap id : ℕ) (xs : List Block) → C.AreNamed cap xs → cap ≤ id → 0 + sum_by size_of (blocks_without xs [] (Some id)) ≡ sum_by size_of xs
-left_other cap id xs named le = left_absent id xs (Each-map (λ (x : Block). x.id < cap) (λ x. x.id ≢ id) (λ x lt e. omega arith) xs (ids_below cap xs named))
+left_other cap id xs named le = left_absent id xs (Each-map (λ x. x.id < cap) (λ x. x.id ≢ id) (λ x lt e. omega arith) xs (ids_below cap xs named))
 
 pub left_known : (cap id : ℕ) (xs : List Block) → C.AreNamed cap xs → (o : Option Block) → o ≡ C.block_with xs id → own_of o + sum_by size_of (blocks_without xs [] (Some id)) ≡ sum_by size_of xs
 left_known cap id xs named None e = left_absent id xs (none_with id xs (sym e))

@@ -46,7 +46,7 @@ clear_packed low high from top to end (b ∷ bs) laid le all room =
           let sum = loose_here b bs low high is.1 (omega arith) lt in
           let rest = clear_packed low high (block_end b) top (to + b.size) end bs laid.2 (omega arith) all.1 (omega (arith, sum, room)) in
           rw (lt-ltb b.at high lt) (inl (omega (arith, sum, room)), rest)
-      | inr ge ↦ rw (le-ltb b.at high ge) (inr ge, Each-map (λ y. (b.at + b.size ≤ y.at) × (0 < y.size)) (Past end high) (λ y f. let k = f.0 in inr (omega arith)) bs (laid_from (block_end b) top bs laid.2))
+      | inr ge ↦ rw (le-ltb b.at high ge) (inr ge, Each-map (λ y. (b.at + b.size ≤ y.at) × (0 < y.size)) _ (λ y f. let k = f.0 in inr (omega arith)) bs (laid_from _ top bs laid.2))
     ]
 
 pub clear_from : (low high from top end : ℕ) (bs : List Block) → IsLaid from top bs → AllByRecursion (FitsGap low high) bs → low ≤ high → low + loose_bytes bs low high ≤ end → AllByRecursion (Past end high) (gathered low high bs)
@@ -68,8 +68,8 @@ pub clear_gathered : (l : Layout) (low high : ℕ) → IsLaid l.lo l.hi l.blocks
 clear_gathered l low high laid may = record {
   above = let one = may.inside.0 in omega arith;
   below = may.inside.2;
-  misses = All-from_Each _ (gathered low high l.blocks)
-      (Each-map (Past (low + loose_bytes l.blocks low high) high) (λ x. IsTrue (is_any x) → Misses x.at x.size (low + loose_bytes l.blocks low high) high) (λ b f t. f) (gathered low high l.blocks)
+  misses = All-from_Each _ _
+      (Each-map _ (λ x. IsTrue (is_any x) → Misses x.at x.size (low + loose_bytes l.blocks low high) high) (λ b f t. f) _
       (clear_from low high l.lo l.hi (low + loose_bytes l.blocks low high) l.blocks laid may.loose may.inside.1 (omega arith)));
 }
 
@@ -89,7 +89,7 @@ tiled_packed low high from top to c d (b ∷ bs) laid le all above some below mi
             | inr k ↦ omega arith
           ]
       | inr ge ↦
-          let none : loose_bytes (b ∷ bs) low high ≡ 0 = loose_none (b ∷ bs) low high (Each-map (λ y. (b.at ≤ y.at) × (0 < y.size)) (λ y. (y.at < low) ⊎ (high ≤ y.at)) (λ y f. let k = f.0 in inr (omega arith)) (b ∷ bs) (laid_from b.at top (b ∷ bs) (omega arith, laid.1, laid.2))) in
+          let none = loose_none (b ∷ bs) low high (Each-map (λ y. (b.at ≤ y.at) × (0 < y.size)) (λ y. (y.at < low) ⊎ (high ≤ y.at)) (λ y f. let k = f.0 in inr (omega arith)) (b ∷ bs) (laid_from b.at top (b ∷ bs) (omega arith, laid.1, laid.2))) in
           omega arith
     ]
 

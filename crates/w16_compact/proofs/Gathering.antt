@@ -13,14 +13,14 @@ moved_same (b ∷ bs) = rw (eq-eqb b.at b.at refl) (let ih = moved_same bs in om
 
 -- At the start: no byte is gathered yet.
 pub cut_low : (low high : ℕ) (bs : List Block) → low ≤ high → AllByRecursion (FitsGap low high) bs → IsCut low bs
-cut_low low high bs le all = Each-map (FitsGap low high) (λ b. (block_end b ≤ low) ⊎ (low ≤ b.at))
+cut_low low high bs le all = Each-map _ (λ b. (block_end b ≤ low) ⊎ (low ≤ b.at))
     (λ b is. elim is [
       | inl below ↦ inl below
       | inr other ↦ elim other [ inl above ↦ inr (omega arith) | inr inside ↦ inr inside.0 ]
     ]) bs all
 
 pub cut_high : (low high : ℕ) (bs : List Block) → low ≤ high → AllByRecursion (FitsGap low high) bs → IsCut high bs
-cut_high low high bs le all = Each-map (FitsGap low high) (λ b. (block_end b ≤ high) ⊎ (high ≤ b.at))
+cut_high low high bs le all = Each-map _ (λ b. (block_end b ≤ high) ⊎ (high ≤ b.at))
     (λ b is. elim is [
       | inl below ↦ inl (omega arith)
       | inr other ↦ elim other [ inl above ↦ inr above | inr inside ↦ inl inside.1 ]
@@ -28,7 +28,7 @@ cut_high low high bs le all = Each-map (FitsGap low high) (λ b. (block_end b �
 
 pub run_start : (l : Layout) (low high : ℕ) → C.MayGather l low high → C.IsMultiple l.grain low → IsRun l (record { from = low; to = low })
 run_start l low high may grained =
-    let one = may.inside.1 in let two = may.inside.2 in let cut = cut_low low high l.blocks one may.loose in
+    let one = may.inside.1 in let two = may.inside.2 in let cut = cut_low low high _ one may.loose in
     record { inside = (may.inside.0, omega arith, omega arith); grained = (grained, grained); whole = (cut, cut); full = λ p from to free. absurd (omega arith) }
 
 -- an old block and the same now, with its size, and at its place where it isn't gathered yet
@@ -47,12 +47,12 @@ pub reached : (low high to : ℕ) (bs : List Block) (b : Block) → IsLaid low h
 reached low high to [] b laid got = absurd (false≢true (ap C.is_some got))
 reached low high to (c ∷ cs) b laid got = elim (cases_lt c.at to) [
   | inl lt ↦
-      let got' : slice_get cs (rank to cs) ≡ Some b = rw (lt-ltb c.at to lt) at got in
+      let got' = rw (lt-ltb c.at to lt) at got in
       let rest = reached (block_end c) high to cs b laid.2 got' in let above = (apart_got (block_end c) high cs (rank to cs) b laid.2 got').0 in
       (rest.0, (inl lt, rest.1), (inl above, rest.2))
   | inr ge ↦
       let got' : Some c ≡ Some b = rw (le-ltb c.at to ge) at got in let same : c ≡ b = cc in let at = ap (λ (x : Block). x.at) same in let some = laid.1 in
-      let behind = all_from (block_end c) high cs laid.2 in (
+      let behind = all_from _ high cs laid.2 in (
         omega arith,
         (inr (omega arith), Each-map (λ y. block_end c ≤ y.at) (λ y. (y.at < to) ⊎ (b.at ≤ y.at)) (λ y le. inr (omega arith)) cs behind),
         (inr (omega arith), Each-map (λ y. block_end c ≤ y.at) (λ y. (block_end y ≤ b.at) ⊎ (b.at ≤ y.at)) (λ y le. inr (omega arith)) cs behind),
@@ -72,7 +72,7 @@ bare_before to from bs begin cut =
 pub some_run : (l : Layout) (high end i : ℕ) (b : Block) → slice_get l.blocks i ≡ Some b → b.at < high → b.at ≤ end → C.EndsAt l high end → b.at < end
 some_run l high end i b got lt le last = elim last [
   | inl top ↦ omega arith
-  | inr none ↦ elim (cases_lt b.at end) [ inl less ↦ less | inr more ↦ absurd (each_got (λ c. c.at ≢ end) l.blocks i b got none (omega arith)) ]
+  | inr none ↦ elim (cases_lt b.at end) [ inl less ↦ less | inr more ↦ absurd (each_got (λ c. c.at ≢ end) _ i b got none (omega arith)) ]
 ]
 
 -- A step: a run slides to where the gathered ones end.
@@ -282,8 +282,8 @@ module _ (l : Layout) (ordered : IsOrdered l) (low high : ℕ) (to : ℕ) (run :
 
 pub at_most : (r a b n : ℕ) → r ≡ cond (eqb a b) 0 n → r ≤ n
 at_most r a b n told = elim (C.eqb_tells a b) [
-  | inl same ↦ let none : r ≡ 0 = rw same.0 at told in omega arith
-  | inr other ↦ let all : r ≡ n = rw other.0 at told in omega arith
+  | inl same ↦ let none = rw same.0 at told in omega arith
+  | inr other ↦ let all = rw other.0 at told in omega arith
 ]
 
 -- At the end: the gathered bytes are whole blocks, and behind them none begins below `high`.
@@ -318,8 +318,8 @@ none_begins q hi high to [] laid none = tt
 none_begins q hi high to (b ∷ bs) laid none = elim (cases_lt b.at to) [
   | inl lt ↦ (inl lt, none_begins (block_end b) hi high to bs laid.2 (let rest : IfSome (slice_get bs (rank to bs)) (λ c. high ≤ c.at) = rw (lt-ltb b.at to lt) at none in rest))
   | inr ge ↦
-      let first : high ≤ b.at = rw (le-ltb b.at to ge) at none in let size = laid.1 in
-      (inr first, Each-map (λ y. block_end b ≤ y.at) (λ y. (y.at < to) ⊎ (high ≤ y.at)) (λ y le. inr (omega arith)) bs (all_from (block_end b) hi bs laid.2))
+      let first = rw (le-ltb b.at to ge) at none in let size = laid.1 in
+      (inr first, Each-map (λ y. block_end b ≤ y.at) (λ y. (y.at < to) ⊎ (high ≤ y.at)) (λ y le. inr (omega arith)) bs (all_from _ hi bs laid.2))
 ]
 
 -- A block that is reached is the first of a run that may slide.
@@ -341,6 +341,6 @@ module _ (l : Layout) (ordered : IsOrdered l) (low high to : ℕ) (b : Block) (g
 pub list_end : (l : Layout) (low high to : ℕ) (old : List Block) → IsOrdered l → IsRun l (record { from = low; to = to }) → IfSome (slice_get l.blocks (rank to l.blocks)) (λ b. high ≤ b.at) → gathered low high l.blocks ≡ gathered low high old → l.blocks ≡ gathered low high old
 list_end l low high to old ordered settled none list =
     let bottom = settled.inside.0 in let top = settled.inside.2 in
-    sym (gathered_done low high to l.lo l.hi l.blocks ordered.laid settled.whole.0
-    (λ p from end lacks. settled.full p from end (lacks_free p l.lo l.hi l.blocks ordered.laid (omega arith) (omega arith) lacks)) (none_begins l.lo l.hi high to l.blocks ordered.laid none))
+    sym (gathered_done low high to l.lo l.hi _ ordered.laid settled.whole.0
+    (λ p from end lacks. settled.full p from end (lacks_free p l.lo l.hi _ ordered.laid (omega arith) (omega arith) lacks)) (none_begins l.lo l.hi high to _ ordered.laid none))
     ∙ list

@@ -6,17 +6,17 @@ use proofs.Common.{◌≡◌, ℕ, ◌+◌, ◌<◌, ◌≤◌, ◌⊎◌, inl, 
 few_left : (id : ℕ) (xs : List Block) → length (all_but id xs) ≤ length xs
 few_left id [] = omega arith
 few_left id (x ∷ xs) = let rest = few_left id xs in elim (C.eqb_tells x.id id) [
-  | inl same ↦ let is = ap (λ (ys : List Block). length ys) (C.all_but_same id x xs same.0) in omega (arith, rest, is)
-  | inr other ↦ let is = ap (λ (ys : List Block). length ys) (all_but_other id x xs other.0) in omega (arith, rest, is)
+  | inl same ↦ let is = ap (λ ys. length ys) (C.all_but_same id x xs same.0) in omega (arith, rest, is)
+  | inr other ↦ let is = ap (λ ys. length ys) (all_but_other id x xs other.0) in omega (arith, rest, is)
 ]
 
 -- what is left is a layout
 pub ordered_without : (h : Option ℕ) (l : C.Layout) → IsOrdered l → IsOrdered (C.without h l)
 ordered_without None l ordered = ordered
 ordered_without (Some id) l ordered = record {
-  laid = C.IsLaid-all_but l.lo l.hi id l.blocks ordered.laid;
-  named = C.AreNamed-all_but l.cap id l.blocks ordered.named;
-  grained = C.All-all_but (C.IsGrained l.grain) id l.blocks ordered.grained;
+  laid = C.IsLaid-all_but l.lo l.hi id _ ordered.laid;
+  named = C.AreNamed-all_but l.cap id _ ordered.named;
+  grained = C.All-all_but _ id _ ordered.grained;
   from = ordered.from;
   small = ordered.small;
   few = let few = ordered.few in let less = few_left id l.blocks in omega arith;
@@ -40,7 +40,7 @@ pub absent_left : (id : ℕ) (xs : List Block) → C.block_with xs id ≡ None �
 absent_left id [] none = refl
 absent_left id (x ∷ xs) none = elim (C.eqb_tells x.id id) [
   | inl same ↦ let no : ◌≡◌ {A = Option Block} (Some x) None = sym (C.with_same id x xs same.0) ∙ none in cc
-  | inr other ↦ all_but_other id x xs other.0 ∙ ap (λ (ys : List Block). x ∷ ys) (absent_left id xs (sym (C.with_other id x xs other.0) ∙ none))
+  | inr other ↦ all_but_other id x xs other.0 ∙ ap (λ ys. x ∷ ys) (absent_left id xs (sym (C.with_other id x xs other.0) ∙ none))
 ]
 
 -- A gap of what is left, and the block that is left out.

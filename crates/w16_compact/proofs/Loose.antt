@@ -14,7 +14,7 @@ loose_append (x ∷ xs) ys a b = let one = loose_one x (xs ++ ys) a b in let two
 pub loose_none : (xs : List Block) (a b : ℕ) → C.AllByRecursion (λ x. (x.at < a) ⊎ (b ≤ x.at)) xs → loose_bytes xs a b ≡ 0
 loose_none [] a b all = refl
 loose_none (x ∷ xs) a b all =
-    let out : (is_loose x && begins_in a b x) ≡ false = C.and_right (is_loose x) (begins_in a b x) (elim all.0 [
+    let out = C.and_right (is_loose x) (begins_in a b x) (elim all.0 [
       | inl lt ↦ C.and_left (nat_le a x.at) (nat_lt x.at b) (C.lt-leb a x.at lt)
       | inr le ↦ C.and_right (nat_le a x.at) (nat_lt x.at b) (C.le-ltb x.at b le)
     ]) in
@@ -25,6 +25,6 @@ loose_none (x ∷ xs) a b all =
 
 pub loose_here : (x : Block) (xs : List Block) (a b : ℕ) → x.hold ≡ Loose → a ≤ x.at → x.at < b → loose_bytes (x ∷ xs) a b ≡ x.size + loose_bytes xs a b
 loose_here x xs a b e le lt =
-    let in_it : (is_loose x && begins_in a b x) ≡ true = C.and_from (is_loose x) (begins_in a b x) (ap (λ h. not (C.holds_still h)) e) (C.and_from (nat_le a x.at) (nat_lt x.at b) (C.le-leb a x.at le) (lt-ltb x.at b lt)) in
+    let in_it = C.and_from (is_loose x) (begins_in a b x) (ap (λ h. not (C.holds_still h)) e) (C.and_from (nat_le a x.at) (nat_lt x.at b) (C.le-leb a x.at le) (lt-ltb x.at b lt)) in
     let one = loose_one x xs a b in let two = C.cond-true (is_loose x && begins_in a b x) x.size 0 in_it in
     omega (arith, one, two)

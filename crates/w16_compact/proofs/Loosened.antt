@@ -127,8 +127,8 @@ held_twice id one two (b ∷ bs) = λ i. once i ∷ held_twice id one two bs i
   where
     once : held id two (held id one b) ≡ held id two b
     once = elim (eqb_tells b.id id) [
-      | inl same ↦ is_own id two (held id one b) same.0 ∙ sym (is_own id two b same.0)
-      | inr other ↦ is_other id two (held id one b) other.0 ∙ is_other id one b other.0 ∙ sym (is_other id two b other.0)
+      | inl same ↦ is_own id two _ same.0 ∙ sym (is_own id two b same.0)
+      | inr other ↦ is_other id two _ other.0 ∙ is_other id one b other.0 ∙ sym (is_other id two b other.0)
     ]
 
 -- one's own hold changes nothing
@@ -137,7 +137,7 @@ held_itself cap id x [] named known = refl
 held_itself cap id x (b ∷ bs) named known = elim (eqb_tells b.id id) [
   | inl same ↦
       let one : ◌≡◌ {A = C.Option Block} (Some b) (Some x) = sym (with_same id b bs same.0) ∙ known in let is : b ≡ x = cc in
-      λ i. (is_own id x.hold b same.0 ∙ ap (λ (c : Block). let r : Block = record b { hold = c.hold } in r) (sym is)) i ∷ none id b.id bs same.1 named.1 i
+      λ i. (is_own id x.hold b same.0 ∙ ap (λ c. let r : Block = record b { hold = c.hold } in r) (sym is)) i ∷ none id b.id bs same.1 named.1 i
   | inr other ↦ λ i. is_other id x.hold b other.0 i ∷ held_itself cap id x bs named.2 (sym (with_other id b bs other.0) ∙ known) i
 ]
   where
@@ -151,9 +151,9 @@ held_itself cap id x (b ∷ bs) named known = elim (eqb_tells b.id id) [
 -- a loose block that gets back its hold counts as loose again
 pub loosened_back : (m : Layout) → IsOrdered m → (id : ℕ) (x : Block) (hold : Hold) → block_with m.blocks id ≡ Some x → x.hold ≡ Loose → C.with_loose id (with_hold id hold m) ≡ m
 loosened_back m is id x hold known loose =
-    ap (λ bs. record m { blocks = bs }) (held_twice id hold Loose m.blocks ∙ ap (λ h. map (held id h) m.blocks) (sym loose) ∙ held_itself m.cap id x m.blocks is.named known)
+    ap (λ bs. record m { blocks = bs }) (held_twice id hold Loose _ ∙ ap (λ h. map (held id h) m.blocks) (sym loose) ∙ held_itself m.cap id x _ is.named known)
 
 -- a layout that was left with another hold of an id's block
 pub set_held : (l : Layout) → IsOrdered l → (id : ℕ) (x : Block) (hold : Hold) → block_with l.blocks id ≡ Some x → {new : Layout} → C.IfSome (block_with l.blocks id) (λ b. new ≡ record l { blocks = replaced (record b { hold = hold }) l.blocks }) → new ≡ with_hold id hold l
 set_held l is id x hold known {new} set =
-    of_known (λ b. new ≡ record l { blocks = replaced (record b { hold = hold }) l.blocks }) (block_with l.blocks id) x known set ∙ is_held id hold l is x (C.with_id id x l.blocks known) known
+    of_known (λ b. new ≡ record l { blocks = replaced (record b { hold = hold }) _ }) _ x known set ∙ is_held id hold l is x (C.with_id id x _ known) known

@@ -17,19 +17,19 @@ ends xs = map block_end (filter is_pinned xs)
 first_after : (lo hi : ℕ) (xs : List Block) (a m : ℕ) → IsLaid lo hi xs → m ≤ lo → m ≤ first_from is_pinned hi xs a
 first_after lo hi [] a m h k = omega arith
 first_after lo hi (x ∷ xs) a m h k =
-    let rest : m ≤ first_from is_pinned hi xs a = first_after (x.at + x.size) hi xs a m h.2 (omega (arith, h)) in
+    let rest = first_after (x.at + x.size) hi xs a m h.2 (omega (arith, h)) in
     elim (is_pinned x && nat_le a x.at) as (λ b. m ≤ cond b (min x.at (first_from is_pinned hi xs a)) (first_from is_pinned hi xs a)) [ true ↦ omega (arith, h.0, rest, k) | false ↦ rest ]
 
 -- no block of it begins below its low end
 none_below : (lo hi : ℕ) (xs : List Block) (a b : ℕ) → IsLaid lo hi xs → b ≤ lo → loose_bytes xs a b ≡ 0
 none_below lo hi [] a b h k = refl
 none_below lo hi (x ∷ xs) a b h k =
-    let out : (is_loose x && begins_in a b x) ≡ false = and_right (is_loose x) (begins_in a b x) (and_right (nat_le a x.at) (C.nat_lt x.at b) (C.le-ltb x.at b (omega (arith, h.0)))) in
-    ap (λ v. sum_by (λ (y : Block). y.size) (cond {A = List Block} v (x ∷ filter (λ y. is_loose y && begins_in a b y) xs) (filter (λ y. is_loose y && begins_in a b y) xs))) out
+    let out = and_right (is_loose x) (begins_in a b x) (and_right (nat_le a x.at) (C.nat_lt x.at b) (C.le-ltb x.at b (omega (arith, h.0)))) in
+    ap (λ v. sum_by (λ y. y.size) (cond {A = List Block} v (x ∷ filter (λ y. is_loose y && begins_in a b y) xs) (filter (λ y. is_loose y && begins_in a b y) xs))) out
     ∙ none_below (x.at + x.size) hi xs a b h.2 (omega (arith, h))
 
 ends_after : (lo hi : ℕ) (xs : List Block) → IsLaid lo hi xs → Each (λ s. lo ≤ s) (ends xs)
-ends_after lo hi xs h = C.Each-of_map (λ s. lo ≤ s) block_end (filter is_pinned xs) (C.Each-filter (λ x. lo ≤ block_end x) is_pinned xs (all lo hi xs h))
+ends_after lo hi xs h = C.Each-of_map (λ s. lo ≤ s) _ _ (C.Each-filter (λ x. lo ≤ block_end x) _ xs (all lo hi xs h))
   where
     all : (lo hi : ℕ) (xs : List Block) → IsLaid lo hi xs → Each (λ x. C.IsTrue (is_pinned x) → lo ≤ block_end x) xs
     all lo hi [] h = tt
@@ -91,24 +91,24 @@ lower lo m hi [] l h = omega arith
 lower lo m hi (x ∷ xs) l h = (omega (arith, h.0), h.1, h.2)
 
 more_ends : (f : ℕ → ℕ) (x : Block) (xs : List Block) (t : Bool) → is_pinned x ≡ t → largest (map f (ends (x ∷ xs))) ≡ cond t (max (f (block_end x)) (largest (map f (ends xs)))) (largest (map f (ends xs)))
-more_ends f x xs true e = ap (λ (b : Bool). largest (map f (map block_end (cond {A = List Block} b (x ∷ filter is_pinned xs) (filter is_pinned xs))))) e
-more_ends f x xs false e = ap (λ (b : Bool). largest (map f (map block_end (cond {A = List Block} b (x ∷ filter is_pinned xs) (filter is_pinned xs))))) e
+more_ends f x xs true e = ap (λ b. largest (map f (map block_end (cond {A = List Block} b (x ∷ filter is_pinned xs) (filter is_pinned xs))))) e
+more_ends f x xs false e = ap (λ b. largest (map f (map block_end (cond {A = List Block} b (x ∷ filter is_pinned xs) (filter is_pinned xs))))) e
 
 pub scan_is : (hi best lo used : ℕ) (xs : List Block) → IsLaid lo hi xs → scan hi best lo used xs ≡ max best (room_beside hi used lo xs)
 scan_is hi best lo used [] h = omega arith
 scan_is hi best lo used (x ∷ xs) h =
-    let f : ℕ → ℕ = room_from hi (x ∷ xs) in
+    let f = room_from hi (x ∷ xs) in
     let same_ends : largest (map f (ends xs)) ≡ largest (map (room_from hi xs) (ends xs)) =
-    largest_same f (room_from hi xs) (ends xs) (C.Each-map _ _ (λ s l. later hi x xs h.2 h.1 s l) (ends xs) (ends_after (x.at + x.size) hi xs h.2)) in
+    largest_same f _ _ (C.Each-map _ _ (λ s l. later hi x xs h.2 h.1 s l) _ (ends_after _ hi xs h.2)) in
     let next : ℕ → ℕ → ℕ → ℕ = λ best start used. scan hi best start used xs in
     elim (is_pinned x) as (λ t. is_pinned x ≡ t → cond t (next (max best (x.at - lo - used)) (block_end x) 0) (next best lo (used + x.size)) ≡ max best (max (f lo - used) (largest (map f (ends (x ∷ xs)))))) [
       | true ↦ λ e.
           let rest : next (max best (x.at - lo - used)) (block_end x) 0 ≡ max (max best (x.at - lo - used)) (max (room_from hi xs (block_end x) - 0) (largest (map (room_from hi xs) (ends xs)))) =
-          scan_is hi (max best (x.at - lo - used)) (block_end x) 0 xs h.2 in
-          rest ∙ joined best (x.at - lo) used _ _ _ _ _ _ (pinned_here hi x xs h.2 h.1 lo e h.0) (later hi x xs h.2 h.1 (block_end x) (omega arith)) same_ends (more_ends f x xs true e)
+          scan_is hi (max best _) (block_end x) 0 xs h.2 in
+          rest ∙ joined best _ used _ _ _ _ _ _ (pinned_here hi x xs h.2 h.1 lo e h.0) (later hi x xs h.2 h.1 _ (omega arith)) same_ends (more_ends f x xs true e)
       | false ↦ λ e.
           let rest : next best lo (used + x.size) ≡ max best (max (room_from hi xs lo - (used + x.size)) (largest (map (room_from hi xs) (ends xs)))) =
-          scan_is hi best lo (used + x.size) xs (lower lo (x.at + x.size) hi xs (omega (arith, h.0)) h.2) in
+          scan_is hi best lo _ xs (lower lo _ hi xs (omega (arith, h.0)) h.2) in
           rest ∙ passed best used x.size _ _ _ _ _ (loose_here hi x xs h.2 h.1 lo e h.0) same_ends (more_ends f x xs false e)
     ] refl
   where
@@ -127,16 +127,16 @@ pub ord_max-max : (a b : ℕ) → C.ord_max C.nat_cmp a b ≡ max a b
 ord_max-max a b = grind (arith, C.nat_tests)
 
 -- no gap has more than the free bytes of all together
-scan_fits : (hi best start used lo : ℕ) (xs : List Block) → IsLaid lo hi xs → start + used ≤ lo → scan hi best start used xs ≤ max best (hi - start - used - sum_by (λ (x : Block). x.size) xs)
+scan_fits : (hi best start used lo : ℕ) (xs : List Block) → IsLaid lo hi xs → start + used ≤ lo → scan hi best start used xs ≤ max best (hi - start - used - sum_by (λ x. x.size) xs)
 scan_fits hi best start used lo [] laid le = omega arith
 scan_fits hi best start used lo (x ∷ xs) laid le =
-    let sum = C.sum_by-cons (λ (y : Block). y.size) x xs in let fit = C.sum_fits (block_end x) hi xs laid.2 in let from = laid.0 in
-    elim (is_pinned x) as (λ t. cond t (scan hi (max best (x.at - start - used)) (block_end x) 0 xs) (scan hi best start (used + x.size) xs) ≤ max best (hi - start - used - sum_by (λ (y : Block). y.size) (x ∷ xs))) [
+    let sum = C.sum_by-cons (λ y. y.size) x xs in let fit = C.sum_fits (block_end x) hi xs laid.2 in let from = laid.0 in
+    elim (is_pinned x) as (λ t. cond t (scan hi (max best (x.at - start - used)) (block_end x) 0 xs) (scan hi best start (used + x.size) xs) ≤ max best (hi - start - used - sum_by (λ y. y.size) (x ∷ xs))) [
       | true ↦ let rest = scan_fits hi (max best (x.at - start - used)) (block_end x) 0 (block_end x) xs laid.2 (omega arith) in omega arith
       | false ↦ let rest = scan_fits hi best start (used + x.size) (block_end x) xs laid.2 (omega arith) in omega arith
     ]
 
-pub room_fits : (lo hi : ℕ) (xs : List Block) → IsLaid lo hi xs → room lo hi xs ≤ hi - lo - sum_by (λ (x : Block). x.size) xs
+pub room_fits : (lo hi : ℕ) (xs : List Block) → IsLaid lo hi xs → room lo hi xs ≤ hi - lo - sum_by (λ x. x.size) xs
 room_fits lo hi xs laid = let one = scan-room lo hi xs laid in let two = scan_fits hi 0 lo 0 lo xs laid (omega arith) in omega arith
 
 -- the room with none left out
@@ -148,5 +148,5 @@ pub room_whole : (lo hi : ℕ) (xs : List Block) (order : List ℕ) → C.room_f
 room_whole lo hi xs order = ap (room lo hi) (none_out_all xs)
 
 -- so where the free bytes are fewer than n, so is the room
-pub too_few : (lo hi n free : ℕ) (xs : List Block) → IsLaid lo hi xs → free ≡ hi - lo - sum_by (λ (x : Block). x.size) xs → free < n → room lo hi xs < n
+pub too_few : (lo hi n free : ℕ) (xs : List Block) → IsLaid lo hi xs → free ≡ hi - lo - sum_by (λ x. x.size) xs → free < n → room lo hi xs < n
 too_few lo hi n free xs laid is few = let fit = room_fits lo hi xs laid in omega arith

@@ -10,14 +10,14 @@ use proofs.Raising.{loose_split, loose_skip, loose_only, raised_below, raised_in
 
 -- the block that is asked for, by its own id
 pub known_by : (l : Layout) (id : ℕ) (x : Block) → block_with l.blocks id ≡ Some x → block_with l.blocks x.id ≡ Some x
-known_by l id x e = ap (block_with l.blocks) (C.with_id id x l.blocks e) ∙ e
+known_by l id x e = ap (block_with _) (C.with_id id x _ e) ∙ e
 
 -- what holds of a block if there is one holds of the one there is, and back
 pub of_known : (P : Block → Type 0) (o : Option Block) (x : Block) → o ≡ Some x → IfSome o P → P x
-of_known P o x e is = subst (λ (q : Option Block). IfSome q P) e is
+of_known P o x e is = subst (λ q. IfSome q P) e is
 
 pub if_known : (P : Block → Type 0) (o : Option Block) (x : Block) → o ≡ Some x → P x → IfSome o P
-if_known P o x e is = subst (λ (q : Option Block). IfSome q P) (sym e) is
+if_known P o x e is = subst (λ q. IfSome q P) (sym e) is
 
 -- slid twice
 pub slid_more : (zs bs cs : List Block) → AreSlid zs bs → AreSlid bs cs → AreSlid zs cs
@@ -27,17 +27,17 @@ slid_more [] (b ∷ bs) cs one two = absurd one
 slid_more (a ∷ zs) [] cs one two = absurd one
 slid_more (a ∷ zs) (b ∷ bs) [] one two = absurd two
 slid_more (a ∷ zs) (b ∷ bs) (c ∷ cs) one two = (
-  two.0 ∙ ap (λ (d : Block). let r : Block = record d { at = c.at } in r) one.0,
-  (λ t. two.1 (subst (λ (d : Block). C.IsTrue (C.is_pinned d)) (sym one.0) t) ∙ one.1 t),
+  two.0 ∙ ap (λ d. let r : Block = record d { at = c.at } in r) one.0,
+  (λ t. two.1 (subst (λ d. C.IsTrue (C.is_pinned d)) (sym one.0) t) ∙ one.1 t),
   slid_more zs bs cs one.2 two.2,
 )
 
 -- no more bytes are moved than there are
-pub moved_most : (bs cs : List Block) → moved_between bs cs ≤ C.sum_by (λ (b : Block). b.size) bs
+pub moved_most : (bs cs : List Block) → moved_between bs cs ≤ C.sum_by (λ b. b.size) bs
 moved_most [] cs = omega arith
 moved_most (b ∷ bs) [] = omega arith
 moved_most (b ∷ bs) (c ∷ cs) =
-    let rest = moved_most bs cs in let sum = C.sum_by-cons (λ (d : Block). d.size) b bs in
+    let rest = moved_most bs cs in let sum = C.sum_by-cons (λ d. d.size) b bs in
     elim (eqb_tells b.at c.at) [
       | inl same ↦ rw same.0 (omega (arith, rest, sum))
       | inr other ↦ rw other.0 (omega (arith, rest, sum))
@@ -187,8 +187,8 @@ with_map f id y [] ids known = absurd (false≢true (ap is_some known))
 with_map f id y (b ∷ bs) ids known = elim (eqb_tells b.id id) [
   | inl same ↦
       let e : Some b ≡ Some y = sym (with_same id b bs same.0) ∙ known in let is : b ≡ y = cc in
-      with_same id (f b) (map f bs) (eq-eqb (f b).id id (ids b ∙ same.1)) ∙ ap (λ (c : Block). Some (f c)) is
-  | inr other ↦ with_other id (f b) (map f bs) (ap (λ (i : ℕ). eqb i id) (ids b) ∙ other.0) ∙ with_map f id y bs ids (sym (with_other id b bs other.0) ∙ known)
+      with_same id (f b) _ (eq-eqb (f b).id id (ids b ∙ same.1)) ∙ ap (λ c. Some (f c)) is
+  | inr other ↦ with_other id (f b) _ (ap (λ i. eqb i id) (ids b) ∙ other.0) ∙ with_map f id y bs ids (sym (with_other id b bs other.0) ∙ known)
 ]
 
 -- The raised blocks leave no byte free between them.
@@ -205,16 +205,16 @@ tiled_up ws low high p from top (b ∷ bs) laid fits same least below missed =
             let is = inside_is low high b size ge lt fits.0 in
             let all = loose_here b bs low high is.1 ge lt in let own = loose_here b bs b.at high is.1 (omega arith) lt in
             let rest_from = loose_split bs low b.at high ge (omega arith) in
-            let none = loose_none bs low b.at (Each-map (λ y. (block_end b ≤ y.at) × (0 < y.size) × (block_end y ≤ top)) (λ y. (y.at < low) ⊎ (b.at ≤ y.at)) (λ y own_y. let from_b = own_y.0 in inr (omega arith)) bs (laid_each (block_end b) top bs laid.2)) in
+            let none = loose_none bs low b.at (Each-map (λ y. (block_end b ≤ y.at) × (0 < y.size) × (block_end y ≤ top)) (λ y. (y.at < low) ⊎ (b.at ≤ y.at)) (λ y own_y. let from_b = own_y.0 in inr (omega arith)) bs (laid_each _ top bs laid.2)) in
             let whole = same b.at start in
             let out : (block_end (record b { at = high - loose_bytes ws b.at high }) ≤ p) ⊎ (p < high - loose_bytes ws b.at high) =
-            subst (λ (c : Block). (block_end c ≤ p) ⊎ (p < c.at)) (raised_inside ws low high b ge lt) missed.0 in
+            subst (λ c. (block_end c ≤ p) ⊎ (p < c.at)) (raised_inside ws low high b ge lt) missed.0 in
             elim out [
-              | inl before ↦ tiled_up ws low high p (block_end b) top bs laid.2 fits.1 same' (omega (arith, all, own, rest_from, none, whole)) below missed.1
+              | inl before ↦ tiled_up ws low high p _ top bs laid.2 fits.1 same' (omega (arith, all, own, rest_from, none, whole)) below missed.1
               | inr after ↦ absurd (omega (arith, all, own, rest_from, none, whole))
             ]
         | inr past ↦
-            let none = loose_none (b ∷ bs) low high (inr past, Each-map (λ y. (block_end b ≤ y.at) × (0 < y.size) × (block_end y ≤ top)) (λ y. (y.at < low) ⊎ (high ≤ y.at)) (λ y own_y. let from_b = own_y.0 in inr (omega arith)) bs (laid_each (block_end b) top bs laid.2)) in
+            let none = loose_none (b ∷ bs) low high (inr past, Each-map (λ y. (block_end b ≤ y.at) × (0 < y.size) × (block_end y ≤ top)) (λ y. (y.at < low) ⊎ (high ≤ y.at)) (λ y own_y. let from_b = own_y.0 in inr (omega arith)) bs (laid_each _ top bs laid.2)) in
             absurd (omega (arith, none))
       ]
     ]

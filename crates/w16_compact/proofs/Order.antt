@@ -22,7 +22,7 @@ all_from low high (b ∷ bs) apart = let one = apart.0 in let two = apart.1 in (
 -- the i-th block and those after it
 pub apart_got : (low high : ℕ) (bs : List Block) (i : ℕ) (b : Block) → IsLaid low high bs → slice_get bs i ≡ Some b → (low ≤ b.at) × (0 < b.size) × IsLaid (block_end b) high (drop (suc i) bs)
 apart_got low high [] i b apart e = absurd (false≢true (ap is_some e))
-apart_got low high (c ∷ cs) zero b apart e = subst (λ (x : Block). (low ≤ x.at) × (0 < x.size) × IsLaid (block_end x) high cs) (same_some b c e) apart
+apart_got low high (c ∷ cs) zero b apart e = subst (λ x. (low ≤ x.at) × (0 < x.size) × IsLaid (block_end x) high cs) (same_some b c e) apart
 apart_got low high (c ∷ cs) (suc i) b apart e =
     let ih = apart_got (block_end c) high cs i b apart.2 e in
     let one = apart.0 in let two = apart.1 in let three = ih.0 in

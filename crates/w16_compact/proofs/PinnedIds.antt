@@ -14,8 +14,8 @@ is_pinned_id-some cap [] id b named e = cc
 is_pinned_id-some cap (x ∷ xs) id b named e = elim (eqb_tells x.id id) [
   | inl same ↦
       let f : Some x ≡ Some b = rw same.0 at e in let g : x ≡ b = cc in
-      let rest : is_pinned_id xs id ≡ false = absent xs id (subst (λ (k : ℕ). AllByRecursion (λ c. c.id ≢ k) xs) same.1 named.1) in
-      rw (same.0, rest) (or_false (is_pinned x) ∙ ap is_pinned g)
+      let rest = absent xs id (subst (λ k. AllByRecursion (λ c. c.id ≢ k) xs) same.1 named.1) in
+      rw (same.0, rest) (or_false _ ∙ ap is_pinned g)
   | inr other ↦ rw other.0 (is_pinned_id-some cap xs id b named.2 (rw other.0 at e))
 ]
   where

@@ -53,13 +53,13 @@ loose_only lo hi s x (b ∷ bs) laid known loose lt last =
     elim (C.eqb_tells b.id x.id) [
       | inl same ↦
           let f : Some b ≡ Some x = sym (C.with_same x.id b bs same.0) ∙ known in let g : b ≡ x = cc in
-          let place = ap (λ (c : Block). c.at) g in let long = ap (λ (c : Block). c.size) g in
-          let sum = loose_here b bs x.at s (ap (λ (c : Block). c.hold) g ∙ loose) (omega arith) (omega arith) in
-          let none = loose_none bs x.at s (behind bs (Each-map (λ y. (block_end b ≤ y.at) × (0 < y.size) × (block_end y ≤ hi)) (λ y. x.at < y.at) (λ y is. let from = is.0 in omega arith) bs (laid_each (block_end b) hi bs laid.2)) last.1) in
+          let place = ap (λ c. c.at) g in let long = ap (λ c. c.size) g in
+          let sum = loose_here b bs x.at s (ap (λ c. c.hold) g ∙ loose) (omega arith) (omega arith) in
+          let none = loose_none bs x.at s (behind bs (Each-map (λ y. (block_end b ≤ y.at) × (0 < y.size) × (block_end y ≤ hi)) (λ y. x.at < y.at) (λ y is. let from = is.0 in omega arith) bs (laid_each _ hi bs laid.2)) last.1) in
           omega (arith, sum, none, long)
       | inr other ↦
-          let known' : block_with bs x.id ≡ Some x = sym (C.with_other x.id b bs other.0) ∙ known in
-          let above = (each_with (λ y. (block_end b ≤ y.at) × (0 < y.size) × (block_end y ≤ hi)) x.id x bs known' (laid_each (block_end b) hi bs laid.2)).0 in
+          let known' = sym (C.with_other x.id b bs other.0) ∙ known in
+          let above = (each_with (λ y. (block_end b ≤ y.at) × (0 < y.size) × (block_end y ≤ hi)) x.id x bs known' (laid_each _ hi bs laid.2)).0 in
           loose_skip b bs x.at s (inl (omega arith)) ∙ loose_only (block_end b) hi s x bs laid.2 known' loose lt last.1
     ]
   where
@@ -113,7 +113,7 @@ raised_all ws low s high le (b ∷ bs) all = λ i. one (cases_lt b.at s) i ∷ r
   where
     one : (b.at < s) ⊎ (s ≤ b.at) → raised_in ws s high b ≡ raised_in ws low high b
     one (inl lt) =
-        let is : (b.at < low) ⊎ (s ≤ b.at) = subst (λ (c : Block). (c.at < low) ⊎ (s ≤ c.at)) (raised_below ws s high b lt) all.0 in
+        let is = subst (λ c. (c.at < low) ⊎ (s ≤ c.at)) (raised_below ws s high b lt) all.0 in
         raised_below ws s high b lt ∙ elim is [ inl under ↦ sym (raised_below ws low high b under) | inr over ↦ absurd (omega arith) ]
     one (inr ge) = elim (cases_lt b.at high) [
       | inl less ↦ raised_inside ws s high b ge less ∙ sym (raised_inside ws low high b (omega arith) less)
@@ -128,7 +128,7 @@ moved_each f g low high from to top bound [] laid fits one two alike moves = ref
 moved_each f g low high from to top bound (b ∷ bs) laid fits one two alike moves =
     let rest = moved_each f g low high from to top (block_end b) bs laid.2 fits.1 one two alike.1 moves.1 in
     let out : ((b.at < from) ⊎ (to ≤ b.at)) → moved_between (b ∷ bs) (map g (b ∷ bs)) ≡ moved_between (b ∷ bs) (map f (b ∷ bs)) + loose_bytes (b ∷ bs) from to =
-    λ side. let first = ap (λ (a : ℕ). cond (eqb b.at a) 0 b.size) (alike.0 side) in let skip = loose_skip b bs from to side in omega (arith, rest, first, skip) in
+    λ side. let first = ap (λ a. cond (eqb b.at a) 0 b.size) (alike.0 side) in let skip = loose_skip b bs from to side in omega (arith, rest, first, skip) in
     elim (cases_lt b.at from) [
       | inl below ↦ out (inl below)
       | inr ge ↦ elim (cases_lt b.at to) [
@@ -146,7 +146,7 @@ moved_each f g low high from to top bound (b ∷ bs) laid fits one two alike mov
 loose_run : (low high from to bound top : ℕ) (bs : List Block) → IsLaid bound top bs → AllByRecursion (FitsGap low high) bs → IsCut from bs → IsCut to bs → low ≤ from → to ≤ high
     → ((p : ℕ) → max bound from ≤ p → p < to → AllByRecursion (Lacks p) bs → ⊥) → loose_bytes bs from to ≡ to - max bound from
 loose_run low high from to bound top [] laid fits cut cut' one two full = elim (cases_lt (max bound from) to) [
-  | inl lt ↦ absurd (full (max bound from) (omega arith) lt tt)
+  | inl lt ↦ absurd (full _ (omega arith) lt tt)
   | inr ge ↦ let none : loose_bytes [] from to ≡ 0 = refl in omega (arith, none)
 ]
 loose_run low high from to bound top (b ∷ bs) laid fits cut cut' one two full =
@@ -157,7 +157,7 @@ loose_run low high from to bound top (b ∷ bs) laid fits cut cut' one two full 
           let end : block_end b ≤ from = elim cut.0 [ inl e ↦ e | inr e ↦ absurd (omega arith) ] in
           let skip = loose_skip b bs from to (inl below) in omega (arith, rest, skip, end)
       | inr ge ↦ elim (cases_lt (max bound from) (min b.at to)) [
-        | inl less ↦ absurd (full (max bound from) (omega arith) (omega arith) (inl (omega arith), later (max bound from) (block_end b) top bs (omega arith) laid.2))
+        | inl less ↦ absurd (full (max bound from) (omega arith) (omega arith) (inl (omega arith), later _ _ top bs (omega arith) laid.2))
         | inr more ↦ elim (cases_lt b.at to) [
           | inr above ↦ let skip = loose_skip b bs from to (inr above) in omega (arith, rest, skip)
           | inl lt ↦
@@ -172,7 +172,7 @@ loose_run low high from to bound top (b ∷ bs) laid fits cut cut' one two full 
 cut_each : (bound top : ℕ) (bs : List Block) → IsLaid bound top bs → AllByRecursion (λ c. IsCut c.at bs) bs
 cut_each bound top [] laid = tt
 cut_each bound top (b ∷ bs) laid =
-    let behind = laid_each (block_end b) top bs laid.2 in let size = laid.1 in (
+    let behind = laid_each _ top bs laid.2 in let size = laid.1 in (
       (inr (omega arith), Each-map (λ y. (block_end b ≤ y.at) × (0 < y.size) × (block_end y ≤ top)) (λ y. (block_end y ≤ b.at) ⊎ (b.at ≤ y.at)) (λ y own. let from = own.0 in inr (omega arith)) bs behind),
       C.Each-both (λ y. (block_end b ≤ y.at) × (0 < y.size) × (block_end y ≤ top)) (λ c. IsCut c.at bs) (λ c. IsCut c.at (b ∷ bs)) (λ c own cut. (inl own.0, cut)) bs behind (cut_each (block_end b) top bs laid.2),
     )
@@ -188,8 +188,8 @@ pub cut_end_now : (l : Layout) (x : Block) → C.IsOrdered l → block_with l.bl
 cut_end_now l x ordered known = Each-map (λ c. (block_end c ≤ x.at) ⊎ ((block_end x ≤ c.at) ⊎ (c ≡ x))) (λ c. (block_end c ≤ block_end x) ⊎ (block_end x ≤ c.at))
     (λ c is. elim is [
       | inl before ↦ inl (omega arith)
-      | inr other ↦ elim other [ inl behind ↦ inr behind | inr same ↦ let at = ap (λ (d : Block). d.at) same in let long = ap (λ (d : Block). d.size) same in inl (omega arith) ]
-    ]) l.blocks (C.around l.lo l.hi l.cap x l.blocks ordered.laid ordered.named known)
+      | inr other ↦ elim other [ inl behind ↦ inr behind | inr same ↦ let at = ap (λ d. d.at) same in let long = ap (λ d. d.size) same in inl (omega arith) ]
+    ]) _ (C.around l.lo l.hi l.cap x _ ordered.laid ordered.named known)
 
 -- A step: the last run that isn't raised yet, which ends with x, is raised.
 module _ (old : List Block) (lo hi low high s to : ℕ) (laid : IsLaid lo hi old) (fits : AllByRecursion (FitsGap low high) old) (below : s ≤ high) (place : to + loose_bytes old s high ≡ high) (room : s ≤ to)

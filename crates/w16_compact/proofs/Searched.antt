@@ -7,7 +7,7 @@ use Rattle.std.specs.List.{slice_get}
 pub below_cap : (most : ℕ) (uses : Uses) (i id : ℕ) (later : List ℕ) → C.AreUses uses → uses.cap ≤ most → drop i uses.ids ≡ id ∷ later → id < most
 below_cap most uses i id later are le e =
     let got = got_dropped uses.ids i id later e in
-    let here = C.All-get_or (λ q. q < uses.cap) uses.ids i id (C.slice_get_within uses.ids i id got) are.below in
+    let here = C.All-get_or (λ q. q < uses.cap) uses.ids i id (C.slice_get_within _ i id got) are.below in
     let same = C.get_or_from_slice_get uses.ids i id id got in
     omega arith
   where
@@ -23,22 +23,22 @@ may_go xs h id = not (C.is_pinned_id xs id) && not (C.is_about h id)
 
 -- the next of an order is the first of those that may be discarded from there on, or is passed over
 pub first_here : (xs : List Block) (h : Option ℕ) (id : ℕ) (later rest : List ℕ) → rest ≡ id ∷ later → may_go xs h id ≡ true → eligible xs rest h ≡ id ∷ eligible xs later h
-first_here xs h id later rest e t = ap (λ qs. eligible xs qs h) e ∙ C.cond-true (may_go xs h id) (id ∷ eligible xs later h) (eligible xs later h) t
+first_here xs h id later rest e t = ap (λ qs. eligible xs qs h) e ∙ C.cond-true _ _ _ t
 
 pub passed_here : (xs : List Block) (h : Option ℕ) (id : ℕ) (later rest : List ℕ) → rest ≡ id ∷ later → may_go xs h id ≡ false → eligible xs rest h ≡ eligible xs later h
-passed_here xs h id later rest e f = ap (λ qs. eligible xs qs h) e ∙ cond-false (may_go xs h id) (id ∷ eligible xs later h) (eligible xs later h) f
+passed_here xs h id later rest e f = ap (λ qs. eligible xs qs h) e ∙ cond-false _ _ _ f
 
 -- the first of some numbers in a row that passes
 find-first : (p : ℕ → Bool) (m a k : ℕ) → a ≤ k → k < a + m → p k ≡ true → ((j : ℕ) → a ≤ j → j < k → p j ≡ false) → find p (C.range_with_len a m) ≡ Some k
 find-first p zero a k le lt t before = absurd (omega arith)
 find-first p (suc m) a k le lt t before = elim (C.cases_lt a k) [
-  | inl l ↦ cond-false (p a) (Some a) _ (before a (omega arith) l) ∙ find-first p m (a + 1) k (omega arith) (omega arith) t (λ j l1 l2. before j (omega arith) l2)
-  | inr l ↦ let same : k ≡ a = omega arith in C.cond-true (p a) (Some a) _ (subst (λ v. p v ≡ true) same t) ∙ ap (λ v. Some v) (sym same)
+  | inl l ↦ cond-false (p a) _ _ (before a (omega arith) l) ∙ find-first p m (a + 1) k (omega arith) (omega arith) t (λ j l1 l2. before j (omega arith) l2)
+  | inr l ↦ let same : k ≡ a = omega arith in C.cond-true (p a) _ _ (subst (λ v. p v ≡ true) same t) ∙ ap (λ v. Some v) (sym same)
 ]
 
 find-none : (p : ℕ → Bool) (m a : ℕ) → ((j : ℕ) → j < a + m → p j ≡ false) → find p (C.range_with_len a m) ≡ None
 find-none p zero a all = refl
-find-none p (suc m) a all = cond-false (p a) (Some a) _ (all a (omega arith)) ∙ find-none p m (a + 1) (λ j l. all j (omega arith))
+find-none p (suc m) a all = cond-false (p a) _ _ (all a (omega arith)) ∙ find-none p m (a + 1) (λ j l. all j (omega arith))
 
 module _ (lo hi : ℕ) (xs : List Block) (order : List ℕ) (h : Option ℕ) where
   abbrev room_of : ℕ → ℕ

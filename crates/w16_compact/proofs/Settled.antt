@@ -5,19 +5,19 @@ use Rattle.w16_compact.proofs.Common.{ℕ, ◌≡◌, ◌+◌, ◌-◌, ◌<◌,
 -- a part of a part
 part_of_part : (bytes : List ℕ) (at n k m : ℕ) → k + m ≤ n → part (part bytes at n) k m ≡ part bytes (at + k) m
 part_of_part bytes at n k m le =
-    ap (λ (i : ℕ). take m (drop k (take i (drop at bytes)))) (let e : n ≡ k + (n - k) = omega arith in e)
-    ∙ ap (take m) (C.drop-take k (n - k) (drop at bytes)) ∙ C.take-take m (n - k) (drop k (drop at bytes)) (omega arith) ∙ ap (take m) (C.drop-drop k at bytes)
+    ap (λ i. take m (drop k (take i (drop at bytes)))) (let e : n ≡ k + (n - k) = omega arith in e)
+    ∙ ap (take m) (C.drop-take k (n - k) _) ∙ C.take-take m (n - k) (drop k _) (omega arith) ∙ ap (take m) (C.drop-drop k at bytes)
 
 -- where it stands there already
 pub same_layout : (l : Layout) (run : Span) (to : ℕ) → run.from ≡ to → l ≡ record { cap = l.cap; lo = l.lo; hi = l.hi; grain = l.grain; blocks = map (slid_with run to) l.blocks }
-same_layout l run to here = ap (λ bs. let r : Layout = record { cap = l.cap; lo = l.lo; hi = l.hi; grain = l.grain; blocks = bs } in r) (sym (slid_still run to here l.blocks))
+same_layout l run to here = ap (λ bs. let r : Layout = record { cap = l.cap; lo = l.lo; hi = l.hi; grain = l.grain; blocks = bs } in r) (sym (slid_still run to here _))
   where
     slid_still : (run : Span) (to : ℕ) → run.from ≡ to → (bs : List Block) → map (slid_with run to) bs ≡ bs
     slid_still run to here [] = refl
     slid_still run to here (b ∷ bs) = λ i. elim (C.cases_lt b.at run.from) as (λ _. slid_with run to b ≡ b) [
       | inl below ↦ slid_below run to b below
       | inr from ↦ elim (C.cases_lt b.at run.to) as (λ _. slid_with run to b ≡ b) [
-        | inl inside ↦ C.slid_inside run to b from inside ∙ ap (λ (at : ℕ). let r : Block = record b { at = at } in r) (let e : to + (b.at - run.from) ≡ b.at = omega arith in e)
+        | inl inside ↦ C.slid_inside run to b from inside ∙ ap (λ at. let r : Block = record b { at = at } in r) (let e : to + (b.at - run.from) ≡ b.at = omega arith in e)
         | inr above ↦ slid_above run to b above
       ]
     ] i ∷ slid_still run to here bs i
@@ -57,7 +57,7 @@ module _ (new old : List ℕ) (run : Span) (to : ℕ) (before after : List Span)
 
 -- of a run that slides down
 pub cleared_down : (run : Span) (to : ℕ) → to < run.from → run.from < run.to → (bs : List Block) → AllByRecursion (Lies run) bs → C.IsBare to run.from bs → AllByRecursion (IsCleared run to) bs
-cleared_down run to down some = C.Each-both (Lies run) (λ b. (block_end b ≤ to) ⊎ (run.from ≤ b.at)) (IsCleared run to)
+cleared_down run to down some = C.Each-both _ (λ b. (block_end b ≤ to) ⊎ (run.from ≤ b.at)) _
     (λ b at bare. let size = at.0 in elim at.1 [
       | inl below ↦ inr (slid_below run to b (omega arith), elim bare [ inl under ↦ inl under | inr over ↦ absurd (omega arith) ])
       | inr other ↦ elim other [
@@ -68,7 +68,7 @@ cleared_down run to down some = C.Each-both (Lies run) (λ b. (block_end b ≤ t
 
 -- and of one that slides up
 pub cleared_up : (run : Span) (to : ℕ) → run.from ≤ to → run.from < run.to → (bs : List Block) → AllByRecursion (Lies run) bs → C.IsBare run.to (to + (run.to - run.from)) bs → AllByRecursion (IsCleared run to) bs
-cleared_up run to up some = C.Each-both (Lies run) (λ b. (block_end b ≤ run.to) ⊎ (to + (run.to - run.from) ≤ b.at)) (IsCleared run to)
+cleared_up run to up some = C.Each-both _ (λ b. (block_end b ≤ run.to) ⊎ (to + (run.to - run.from) ≤ b.at)) _
     (λ b at bare. let size = at.0 in elim at.1 [
       | inl below ↦ inr (slid_below run to b (omega arith), inl (omega arith))
       | inr other ↦ elim other [

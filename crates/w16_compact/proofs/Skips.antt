@@ -16,7 +16,7 @@ pub no_grain : (g : ℕ) → IsMultiple g 0
 no_grain g = (0, omega arith)
 
 pub passed_grained : (g : ℕ) (r next : Reached) (x : Block) → IsGrained g x → IsReachedGrained g r → next ≡ passed r x → IsReachedGrained g next
-passed_grained g r next x fits reached is = subst (IsReachedGrained g) (sym is) (turn (is_pinned x))
+passed_grained g r next x fits reached is = subst (IsReachedGrained g) (sym is) (turn _)
   where
     turn : (b : Bool) → IsReachedGrained g (cond b (record { low = block_end x; loose = 0 }) (record { low = r.low; loose = r.loose + x.size }))
     turn true = (multiple_sum g x.at x.size fits.0 fits.1, no_grain g)
@@ -42,9 +42,9 @@ each_here P (y ∷ ys) x rest (suc i) here each = each_here P ys x rest i here e
 pub laid_filter : (p : Block → Bool) (lo hi : ℕ) (xs : List Block) → IsLaid lo hi xs → IsLaid lo hi (filter p xs)
 laid_filter p lo hi [] h = h
 laid_filter p lo hi (x ∷ xs) h =
-    let rest : IsLaid (block_end x) hi (filter p xs) = laid_filter p (block_end x) hi xs h.2 in
+    let rest = laid_filter p (block_end x) hi xs h.2 in
     let one = h.0 in let two = h.1 in
-    turn (p x) rest (IsLaid-from lo (block_end x) hi (filter p xs) (omega arith) rest)
+    turn (p x) rest (IsLaid-from lo _ hi _ (omega arith) rest)
   where
     turn : (t : Bool) → IsLaid (block_end x) hi (filter p xs) → IsLaid lo hi (filter p xs) → IsLaid lo hi (cond t (x ∷ filter p xs) (filter p xs))
     turn true a b = (h.0, h.1, a)

@@ -84,8 +84,8 @@ member_passing q id [] = refl
 member_passing q id (x ∷ ids) = turn (q x) refl (member_passing q id ids)
   where
     turn : (b : Bool) → q x ≡ b → is_member id (filter q ids) ≡ (is_member id ids && q id) → is_member id (cond {A = List ℕ} b (x ∷ filter q ids) (filter q ids)) ≡ (((x == id) || is_member id ids) && q id)
-    turn true e = either true (x == id) (is_member id ids) (q id) (is_member id (filter q ids)) (λ t. ap q (sym (C.eqb-true x id t)) ∙ e)
-    turn false e = either false (x == id) (is_member id ids) (q id) (is_member id (filter q ids)) (λ t. ap q (sym (C.eqb-true x id t)) ∙ e)
+    turn true e = either true _ _ (q id) _ (λ t. ap q (sym (C.eqb-true x id t)) ∙ e)
+    turn false e = either false _ _ (q id) _ (λ t. ap q (sym (C.eqb-true x id t)) ∙ e)
 
 some_is : (b : Bool) → is_some (none_discarded_if b) ≡ b
 some_is true = refl

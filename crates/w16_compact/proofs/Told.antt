@@ -10,7 +10,7 @@ use Rattle.std.proofs.Common.{eq-eqb}
 scan_best : (hi a b low loose : ℕ) (ys : List Block) → scan hi (max a b) low loose ys ≡ max a (scan hi b low loose ys)
 scan_best hi a b low loose [] = omega arith
 scan_best hi a b low loose (y ∷ ys) =
-    let here : ℕ = y.at - low - loose in
+    let here = y.at - low - loose in
     let first : max (max a b) here ≡ max a (max b here) = omega arith in
     elim (is_pinned y) as (λ t. cond t (scan hi (max (max a b) here) (block_end y) 0 ys) (scan hi (max a b) low (loose + y.size) ys) ≡ max a (cond t (scan hi (max b here) (block_end y) 0 ys) (scan hi b low (loose + y.size) ys))) [
       | true ↦ ap (λ m. scan hi m (block_end y) 0 ys) first ∙ scan_best hi a (max b here) (block_end y) 0 ys

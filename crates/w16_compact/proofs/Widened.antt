@@ -18,7 +18,7 @@ more_taken : (k : ℕ) (ids : List ℕ) (id : ℕ) (later : List ℕ) → drop k
 more_taken zero [] id later e q = cc
 more_taken zero (r ∷ ids) id later e q = let same : r ≡ id = cc in ap (λ (s : ℕ). (s == q) || false) same
 more_taken (suc k) [] id later e q = cc
-more_taken (suc k) (r ∷ ids) id later e q = ap (λ b. (r == q) || b) (more_taken k ids id later e q) ∙ swapped (r == q) (id == q) (is_member q (take k ids))
+more_taken (suc k) (r ∷ ids) id later e q = ap (λ b. (r == q) || b) (more_taken k ids id later e q) ∙ swapped (r == q) (id == q) (is_member q _)
 
 each_dropped : (P : ℕ → Type 0) (k : ℕ) (ids : List ℕ) (id : ℕ) (later : List ℕ) → drop k ids ≡ id ∷ later → Each P ids → P id
 each_dropped P zero ids id later e all = (subst (Each P) e all).0
@@ -53,7 +53,7 @@ turned a b = grind (arith, C.nat_tests)
 
 blocks_more : (ids more : List ℕ) (id : ℕ) (h : Option ℕ) → ((q : ℕ) → is_member q more ≡ ((id == q) || is_member q ids)) → (xs : List Block) → blocks_without xs more h ≡ all_but id (blocks_without xs ids h)
 blocks_more ids more id h each =
-    filter_both (λ x. not (is_member x.id ids || is_about h x.id)) (λ x. not (x.id == id)) (λ x. not (is_member x.id more || is_about h x.id))
+    filter_both (λ x. not _) (λ x. not _) (λ x. not _)
     (λ x. ap (λ b. not (b || is_about h x.id)) (each x.id ∙ ap (λ b. b || is_member x.id ids) (turned id x.id)) ∙ one_out (x.id == id) (is_member x.id ids) (is_about h x.id))
 
 module _ (l : C.Layout) (order : List ℕ) (h : Option ℕ) (gap_of : List ℕ) where
@@ -144,4 +144,4 @@ module _ (l : C.Layout) (order : List ℕ) (h : Option ℕ) (gap_of : List ℕ) 
 
 -- each id of an order is there once
 pub once_each : (uses : Uses) → C.AreUses uses → EachPair (λ a b. a ≡ b → ⊥) uses.ids
-once_each uses are = C.EachPair-from_AllPairs (λ a b. a ≡ b → ⊥) uses.ids are.apart
+once_each uses are = C.EachPair-from_AllPairs (λ a b. a ≡ b → ⊥) _ are.apart

@@ -24,12 +24,12 @@ first_below g m k ms apart some other = let r = apart.apart 0 (suc k) some (omeg
 -- a cell set before all others
 spans-set_first : (g : ℕ) (ms : List ℕ) (v i r : ℕ) → i < length ms → ((j : ℕ) → j ≤ i → slice_index ms j ≡ 0) → spans g v (set ms i r) ≡ add_span (v + g * i) (v + g * i + r) (spans g v ms)
 spans-set_first g [] v i r lt none = absurd (omega arith)
-spans-set_first g (m ∷ ms) v zero r lt none = let e : v + g * 0 ≡ v = omega arith in rw e (ap (add_span v (v + r)) (sym (add_zero v m (spans g (v + g) ms) (none 0 (omega arith)))))
+spans-set_first g (m ∷ ms) v zero r lt none = let e : v + g * 0 ≡ v = omega arith in rw e (ap (add_span v (v + r)) (sym (add_zero v m _ (none 0 (omega arith)))))
 spans-set_first g (m ∷ ms) v (suc i) r lt none =
     let z = none 0 (omega arith) in
     let e : v + g * suc i ≡ v + g + g * i = omega arith in
-    rw e (add_zero v m (spans g (v + g) (set ms i r)) z ∙ spans-set_first g ms (v + g) i r (omega arith) (λ j le. none (suc j) (omega arith))
-    ∙ ap (add_span (v + g + g * i) (v + g + g * i + r)) (sym (add_zero v m (spans g (v + g) ms) z)))
+    rw e (add_zero v m _ z ∙ spans-set_first g ms (v + g) i r (omega arith) (λ j le. none (suc j) (omega arith))
+    ∙ ap (add_span (v + g + g * i) (v + g + g * i + r)) (sym (add_zero v m _ z)))
 
 -- `taken` and `joined`, by what stands first
 taken_pass : (a b u m : ℕ) (ss : List Span) → (0 < m → u + m ≤ a) → taken a b (add_span u (u + m) ss) ≡ add_span u (u + m) (taken a b ss)
@@ -53,13 +53,13 @@ pub taken_end : (g : ℕ) (ns : List ℕ) (u k p q : ℕ) → IsApart g ns → g
 taken_end g [] u k p q apart from some to = absurd (omega arith)
 taken_end g (m ∷ ms) u zero p q apart from some to =
     let e : p - g * 0 ≡ p = omega arith in
-    rw e (sym (taken_here (u + p) (u + q) u m (spans g (u + g) ms) (omega arith) (omega arith) ∙ ap (add_span u (u + p)) (add_none (u + q) (u + m) (spans g (u + g) ms) (omega arith))))
+    rw e (sym (taken_here (u + p) (u + q) u m _ (omega arith) (omega arith) ∙ ap (add_span u (u + p)) (add_none (u + q) (u + m) _ (omega arith))))
 taken_end g (m ∷ ms) u (suc k) p q apart from some to =
     let e : p - g * suc k ≡ p - g - g * k = omega arith in
     let f : u + p ≡ u + g + (p - g) = omega arith in
     let h : u + q ≡ u + g + (q - g) = omega arith in
     let ih = taken_end g ms (u + g) k (p - g) (q - g) (IsApart-tail g m ms apart) (omega arith) (omega arith) (omega arith) in
-    rw (e, f, h) (ap (add_span u (u + m)) ih ∙ sym (taken_pass (u + g + (p - g)) (u + g + (q - g)) u m (spans g (u + g) ms) (λ has. let r = first_below g m k ms apart has (omega arith) in omega arith)))
+    rw (e, f, h) (ap (add_span u (u + m)) ih ∙ sym (taken_pass _ _ u m _ (λ has. let r = first_below g m k ms apart has (omega arith) in omega arith)))
 
 -- inside a hole
 pub taken_inside : (g : ℕ) (ns : List ℕ) (u k p q : ℕ) → IsApart g ns → g * k ≤ p → p < g * q → g * q < g * k + slice_index ns k → q < length ns
@@ -68,13 +68,13 @@ taken_inside g [] u k p q apart from some to long = absurd (omega arith)
 taken_inside g (m ∷ ms) u zero p zero apart from some to long = absurd (omega arith)
 taken_inside g (m ∷ ms) u zero p (suc i) apart from some to long =
     let e : p - g * 0 ≡ p = omega arith in
-    let none : (j : ℕ) → j ≤ i → slice_index ms j ≡ 0 = λ j le. elim (cases_lt 0 (slice_index ms j)) [
+    let none : (j : ℕ) → j ≤ i → slice_index ms j ≡ 0 = λ j le. elim (cases_lt 0 _) [
       | inl has ↦ let r = first_below g m j ms apart (omega arith) has in let s = up g j i le in absurd (omega arith)
       | inr off ↦ omega arith
     ] in
     let f : u + g + g * i ≡ u + g * suc i = omega arith in
     let h : u + g * suc i + (g * 0 + m - g * suc i) ≡ u + m = omega arith in
-    rw e (ap (add_span u (u + p)) (spans-set_first g ms (u + g) i (g * 0 + m - g * suc i) (omega arith) none ∙ rw (f, h) refl) ∙ sym (taken_here (u + p) (u + g * suc i) u m (spans g (u + g) ms) (omega arith) (omega arith)))
+    rw e (ap (add_span u (u + p)) (spans-set_first g ms (u + g) i _ (omega arith) none ∙ rw (f, h) refl) ∙ sym (taken_here (u + p) _ u m _ (omega arith) (omega arith)))
 taken_inside g (m ∷ ms) u (suc k) p zero apart from some to long = absurd (omega arith)
 taken_inside g (m ∷ ms) u (suc k) p (suc q) apart from some to long =
     let e : p - g * suc k ≡ p - g - g * k = omega arith in
@@ -82,7 +82,7 @@ taken_inside g (m ∷ ms) u (suc k) p (suc q) apart from some to long =
     let h : u + g * suc q ≡ u + g + g * q = omega arith in
     let l : g * suc k + slice_index ms k - g * suc q ≡ g * k + slice_index ms k - g * q = omega arith in
     let ih = taken_inside g ms (u + g) k (p - g) q (IsApart-tail g m ms apart) (omega arith) (omega arith) (omega arith) (omega arith) in
-    rw (e, f, h, l) (ap (add_span u (u + m)) ih ∙ sym (taken_pass (u + g + (p - g)) (u + g + g * q) u m (spans g (u + g) ms) (λ has. let r = first_below g m k ms apart has (omega arith) in omega arith)))
+    rw (e, f, h, l) (ap (add_span u (u + m)) ih ∙ sym (taken_pass _ _ u m _ (λ has. let r = first_below g m k ms apart has (omega arith) in omega arith)))
 
 -- before all holes
 joined_before : (g : ℕ) (ms : List ℕ) (v a b : ℕ) → a ≤ b → ((j : ℕ) → 0 < slice_index ms j → b < v + g * j) → joined a b (spans g v ms) ≡ record { from = a; to = b } ∷ spans g v ms
@@ -134,7 +134,7 @@ joined_is g wide (m ∷ ms) u zero p (suc i) apart inside from some here below n
     let p_is : p ≡ m = omega arith in
     let first : joined u (u + g * suc i) (spans g (u + g) ms) ≡ record { from = u; to = u + (g * suc i + n) } ∷ spans g (u + g) (set ms i 0) =
     rw f (joined_first g wide ms (u + g) i u (IsApart-tail g m ms apart) (omega arith) (λ j lt. none (suc j) (omega arith) (omega arith)) ∙ rw l refl) in
-    rw (e, p_is) (add_some u (u + (g * suc i + n)) (spans g (u + g) (set ms i 0)) (omega arith) ∙ sym first ∙ sym (elim (cases_lt 0 m) [
+    rw (e, p_is) (add_some u _ _ (omega arith) ∙ sym first ∙ sym (elim (cases_lt 0 m) [
       | inl has ↦
           let h : min (u + m) u ≡ u = omega arith in
           let x : max (u + g * suc i) (u + m) ≡ u + g * suc i = omega arith in
@@ -149,7 +149,7 @@ joined_is g wide (m ∷ ms) u (suc k) p (suc q) apart inside from some here belo
     let ih = joined_is g wide ms (u + g) k (p - g) q (IsApart-tail g m ms apart) (omega arith) (omega arith) (omega arith) (omega arith)
     (λ j lt has. let r = below (suc j) (omega arith) has in omega arith)
     (λ j lt to. none (suc j) (omega arith) (omega arith)) in
-    rw (e, f, h) (ap (add_span u (u + m)) ih ∙ sym (joined_pass (u + g + (p - g)) (u + g + g * q) u m (spans g (u + g) ms) (λ has. let r = below 0 (omega arith) has in omega arith)))
+    rw (e, f, h) (ap (add_span u (u + m)) ih ∙ sym (joined_pass _ _ u m _ (λ has. let r = below 0 (omega arith) has in omega arith)))
 
 -- a cell changed
 module _ (g : ℕ) (ns : List ℕ) (k x : ℕ) (lt : k < length ns) where

@@ -9,7 +9,7 @@ pub last_none : (a lo hi : ℕ) (hs : List Span) → a ≤ lo → AreHoles lo hi
 last_none a lo hi [] le holes = refl
 last_none a lo hi (h ∷ hs) le holes =
     let from = holes.0 in let some = holes.1 in
-    rw (le-ltb h.from a (omega arith)) (last_none a (suc h.to) hi hs (omega arith) holes.3)
+    rw (le-ltb h.from a (omega arith)) (last_none a _ hi hs (omega arith) holes.3)
 
 -- [a, b) is taken from one hole
 pub record IsTakenFrom (lo hi a b : ℕ) (hs front : List Span) (h : Span) (back : List Span) : Type 0 where
@@ -41,13 +41,13 @@ cut_taken lo hi a b (h ∷ hs) some holes (inl here) =
         below = tt;
         above = holes.3;
         left = rw (lt-ltb a h.to (omega arith)) refl;
-        at = last_first b h hs (omega arith) (last_none b (suc h.to) hi hs (omega arith) holes.3);
-        inside = λ lt. last_first a h hs lt (last_none a (suc h.to) hi hs (omega arith) holes.3);
+        at = last_first b h hs (omega arith) (last_none b _ hi hs (omega arith) holes.3);
+        inside = λ lt. last_first a h hs lt (last_none a _ hi hs (omega arith) holes.3);
         begins = λ e. last_none a h.from hi (h ∷ hs) (omega arith) (omega arith, holes.1, holes.2, holes.3);
       },
     )
 cut_taken lo hi a b (h ∷ hs) some holes (inr rest) =
-    let c = cut_taken (suc h.to) hi a b hs some holes.3 rest in
+    let c = cut_taken _ hi a b hs some holes.3 rest in
     let is = c.3 in
     let has = holes.1 in
     let low = is.low in let from = is.from in (
@@ -63,8 +63,8 @@ cut_taken lo hi a b (h ∷ hs) some holes (inr rest) =
         below = (holes.0, has, omega arith, is.below);
         above = is.above;
         left = rw (le-ltb a h.to (omega arith)) (ap (λ l. h ∷ l) is.left);
-        at = last_cons b c.1.from h hs (omega arith) is.at;
-        inside = λ lt. last_cons a c.1.from h hs (omega arith) (is.inside lt);
+        at = last_cons b _ h hs (omega arith) is.at;
+        inside = λ lt. last_cons a _ h hs (omega arith) (is.inside lt);
         begins = λ e. rw (lt-ltb h.from a (omega arith)) (ap (λ o. Some (unwrap_or o h.from)) (is.begins e));
       },
     )
@@ -96,7 +96,7 @@ at_none b lo hi (h ∷ hs) lt holes =
     let from = holes.0 in let some = holes.1 in
     elim (eqb_tells h.from b) [
       | inl same ↦ let e = same.1 in absurd (omega arith)
-      | inr other ↦ rw (other.0) (at_none b (suc h.to) hi hs (omega arith) holes.3)
+      | inr other ↦ rw (other.0) (at_none b _ hi hs (omega arith) holes.3)
     ]
 
 at_later : (b : ℕ) (h : Span) (hs : List Span) → h.from < b → length_at b (h ∷ hs) ≡ length_at b hs
@@ -139,7 +139,7 @@ cut_below a b hi (h ∷ hs) some top holes =
           from = omega arith;
           high = top;
           above = all;
-          made = joined_first a b (suc b) hi (h ∷ hs) some (omega arith) all;
+          made = joined_first a b (suc b) hi _ some (omega arith) all;
           at = at_none b (suc b) hi (h ∷ hs) (omega arith) all ∙ omega arith;
           next = next_first b (suc b) hi (h ∷ hs) (omega arith) all;
         },
@@ -157,9 +157,9 @@ cut_below a b hi (h ∷ hs) some top holes =
               from = omega arith;
               high = holes.2;
               above = holes.3;
-              made = rw (le-ltb h.to a (omega arith), le-ltb b h.from (omega arith), low, high) (joined_first a h.to (suc h.to) hi hs (omega arith) (omega arith) holes.3);
+              made = rw (le-ltb h.to a (omega arith), le-ltb b h.from (omega arith), low, high) (joined_first a h.to _ hi hs (omega arith) (omega arith) holes.3);
               at = rw (eq-eqb h.from b e) (omega arith);
-              next = rw (le-ltb b h.from (omega arith)) (next_first b (suc h.to) hi hs (omega arith) holes.3);
+              next = rw (le-ltb b h.from (omega arith)) (next_first b _ hi hs (omega arith) holes.3);
             },
           )
     ]
@@ -187,7 +187,7 @@ to_none a lo hi (h ∷ hs) le holes =
     let from = holes.0 in let some = holes.1 in
     elim (eqb_tells h.to a) [
       | inl same ↦ let e = same.1 in absurd (omega arith)
-      | inr other ↦ rw (other.0) (to_none a (suc h.to) hi hs (omega arith) holes.3)
+      | inr other ↦ rw (other.0) (to_none a _ hi hs (omega arith) holes.3)
     ]
 
 -- where a hole ends at a, the others lie from b on
@@ -271,7 +271,7 @@ cut_put lo hi a b (h ∷ hs) some low top holes used =
     elim used.0 [
       | inr above ↦ put_first lo hi a b (h ∷ hs) some low top (above, has, holes.2, holes.3)
       | inl below ↦ elim (cases_lt h.to a) [
-        | inr touches ↦ put_behind lo hi a b h hs some top (omega arith) holes (used_above a b (suc h.to) hi hs (omega arith) some holes.3 used.1)
+        | inr touches ↦ put_behind lo hi a b h hs some top (omega arith) holes (used_above a b _ hi hs (omega arith) some holes.3 used.1)
         | inl apart ↦
             let c = cut_put (suc h.to) hi a b hs some (omega arith) top holes.3 used.1 in
             let is = c.5 in

@@ -52,16 +52,16 @@ last_lower g ns q k is =
 -- a place has one cell
 one_cell : (g u : ℕ) (r s : Option ℕ) → 0 < g → option_map (λ k. u + g * k) r ≡ option_map (λ k. u + g * k) s → r ≡ s
 one_cell g u None None wide e = refl
-one_cell g u None (Some j) wide e = absurd (none-some (u + g * j) e)
-one_cell g u (Some k) None wide e = absurd (none-some (u + g * k) (sym e))
+one_cell g u None (Some j) wide e = absurd (none-some _ e)
+one_cell g u (Some k) None wide e = absurd (none-some _ (sym e))
 one_cell g u (Some k) (Some j) wide e =
-    let same = same_Some (u + g * k) (u + g * j) e in
+    let same = same_Some _ _ e in
     let le = at_most g k j wide (omega arith) in let ge = at_most g j k wide (omega arith) in
     let is : k ≡ j = omega arith in ap (λ n. Some n) is
 
 -- the last hole below a place, told by its cell
 pub last_cell : (g u q a : ℕ) (ns : List ℕ) (r : Option ℕ) → 0 < g → u + g * q ≡ a → option_map (λ k. u + g * k) r ≡ last_before a (spans g u ns) → r ≡ last_below ns q
-last_cell g u q a ns r wide at is = one_cell g u r (last_below ns q) wide (is ∙ sym (last_is g u q a ns (last_below ns q) wide at refl))
+last_cell g u q a ns r wide at is = one_cell g u r _ wide (is ∙ sym (last_is g u q a ns _ wide at refl))
 
 -- a cell more
 pub last_here : (ns : List ℕ) (i : ℕ) → 0 < slice_index ns i → Some i ≡ last_below ns (i + 1)

@@ -23,9 +23,9 @@ words_put from to next bytes low high some inside small top =
       some = some;
       inside = omega arith;
       size =
-          word_kept (from + 4) (from + 4 + 4) (put_word bytes from (to - from)) (put_words bytes from (to - from) next) from (kept_word (put_word bytes from (to - from)) (from + 4) next (omega arith)) (inl (omega arith))
+          word_kept (from + 4) (from + 4 + 4) (put_word bytes from _) (put_words bytes from _ next) from (kept_word _ _ next (omega arith)) (inl (omega arith))
           ∙ word_in-put_word bytes from (to - from) (omega arith) (omega arith);
-      link = word_in-put_word (put_word bytes from (to - from)) (from + 4) next (omega arith) small;
+      link = word_in-put_word (put_word bytes from _) (from + 4) next (omega arith) small;
     }
 
 first_small : (lo hi : ℕ) (hs : List Span) → hi < 2 ^ 32 → AreHoles lo hi hs → first_of no_hole hs < 2 ^ 32
@@ -39,9 +39,9 @@ between lo mid hi from to front back bytes low_8 high_8 some inside low top smal
     let next = first_of no_hole back in
     let wide = room from to low_8 high_8 some in
     let kept = kept_words bytes from (to - from) next (omega arith) in
-    thread_join no_hole front (record { from = from; to = to } ∷ back) (put_words bytes from (to - from) next)
-    (thread_kept from front lo mid from (from + 8) bytes (put_words bytes from (to - from) next) kept lower (inl low) linked)
-    (words_put from to next bytes low_8 high_8 some inside (first_small (suc to) hi back small higher) (omega arith), thread_kept no_hole back (suc to) hi from (from + 8) bytes (put_words bytes from (to - from) next) kept higher (inr (omega arith)) rest)
+    thread_join no_hole front (record { from = from; to = to } ∷ back) _
+    (thread_kept from front lo mid from _ bytes _ kept lower (inl low) linked)
+    (words_put from to next bytes low_8 high_8 some inside (first_small _ hi back small higher) (omega arith), thread_kept no_hole back _ hi from _ bytes _ kept higher (inr (omega arith)) rest)
 
 holes_lower : (lo low hi : ℕ) (hs : List Span) → low ≤ lo → AreHoles lo hi hs → AreHoles low hi hs
 holes_lower lo low hi [] le holes = tt
@@ -50,7 +50,7 @@ holes_lower lo low hi (h ∷ hs) le holes = let from = holes.0 in (omega arith, 
 pub hole_kept : (from to next : ℕ) (bytes : List ℕ) → IsMultiple 8 from → IsMultiple 8 to → to ≤ length bytes → IsKept from to bytes (put_hole bytes from to next)
 hole_kept from to next bytes low high inside = elim (cases_lt from to) [
   | inl lt ↦ let wide = room from to low high lt in
-      rw (lt-ltb from to lt) (kept_wider from (from + 8) from to bytes (put_words bytes from (to - from) next) (omega arith) wide (kept_words bytes from (to - from) next (omega arith)))
+      rw (lt-ltb from to lt) (kept_wider from _ from to bytes _ (omega arith) wide (kept_words bytes from _ next (omega arith)))
   | inr le ↦ rw (le-ltb from to le) (kept_refl from to bytes)
 ]
 
@@ -375,7 +375,7 @@ place_behind {r} {a} {n} part = let from = part.from in record {
 }
 
 pub multiple_of_8 : (g a : ℕ) → IsMultiple 8 g → IsMultiple g a → IsMultiple 8 a
-multiple_of_8 g a wide grained = (wide.0 * grained.0, grained.1 ∙ ap (λ n. n * grained.0) wide.1 ∙ C.mul_assoc 8 wide.0 grained.0)
+multiple_of_8 g a wide grained = (wide.0 * grained.0, grained.1 ∙ ap (λ n. n * grained.0) wide.1 ∙ C.mul_assoc 8 wide.0 _)
 
 some_of : {r : Range} {a n : ℕ} → C.IsPart r a n → a < a + n
 some_of part = let has = part.some in omega arith

@@ -28,7 +28,7 @@ lowest_is g lo n ns =
 -- that hole lies inside
 pub lowest_inside : (g size n : ℕ) (ns : List ℕ) (k : ℕ) → Some k ≡ C.position (nat_le (max n 1)) ns → C.IsInside g size ns → g * k < size
 lowest_inside g size n ns k is inside =
-    let told = C.position-Some (nat_le (max n 1)) ns k 0 (sym is) in
+    let told = C.position-Some (nat_le _) ns k 0 (sym is) in
     let long = C.leb-true (max n 1) (slice_index ns k) told.1 in
     let r = inside.inside k (omega arith) in omega arith
 
@@ -37,7 +37,7 @@ longest_from g [] u a = refl
 longest_from g (m ∷ ms) u a =
     let f : u + m - u ≡ m = omega arith in
     elim (cases_lt u (u + m)) [
-      | inl lt ↦ rw (lt-ltb u (u + m) lt, f) (longest_from g ms (u + g) (max a m))
+      | inl lt ↦ rw (lt-ltb u (u + m) lt, f) (longest_from g ms (u + g) _)
       | inr le ↦ let z : max a m ≡ a = omega arith in rw (le-ltb u (u + m) le, z) (longest_from g ms (u + g) a)
     ]
 
@@ -58,7 +58,7 @@ are_holes_from g (m ∷ ms) u low top apart from to =
             omega arith,
             lt,
             omega arith,
-            are_holes_from g ms (u + g) (suc (u + m)) top (IsApart-tail g m ms apart) (λ j has. let r = apart.apart 0 (suc j) (omega arith) (omega arith) has in omega arith) rest,
+            are_holes_from g ms (u + g) _ top (IsApart-tail g m ms apart) (λ j has. let r = apart.apart 0 (suc j) (omega arith) (omega arith) has in omega arith) rest,
           )
       | inr le ↦ rw (le-ltb u (u + m) le) (are_holes_from g ms (u + g) low top (IsApart-tail g m ms apart) (λ j has. let r = from (suc j) has in omega arith) rest)
     ]

@@ -16,12 +16,12 @@ next_at p lo hi (h ∷ hs) bytes holes thread has =
           let e = same.1 in
           let fits = room h.from h.to words.low words.high words.some in
           let inside = words.inside in
-          (omega arith, rw (le-ltb p h.from (omega arith)) (ap (λ n. word_in bytes (n + 4)) (sym e) ∙ words.link ∙ sym (next_first p (suc h.to) hi hs (omega arith) holes.3)))
+          (omega arith, rw (le-ltb p h.from (omega arith)) (ap (λ n. word_in bytes (n + 4)) (sym e) ∙ words.link ∙ sym (next_first p _ hi hs (omega arith) holes.3)))
       | inr other ↦
           let rest = rw (other.0) at has in
-          elim (cases_lt p (suc h.to)) [
-            | inl low ↦ let z = at_none p (suc h.to) hi hs low holes.3 in absurd (omega arith)
-            | inr high ↦ rw (le-ltb p h.from (omega arith)) (next_at p (suc h.to) hi hs bytes holes.3 thread.1 rest)
+          elim (cases_lt p _) [
+            | inl low ↦ let z = at_none p _ hi hs low holes.3 in absurd (omega arith)
+            | inr high ↦ rw (le-ltb p h.from (omega arith)) (next_at p _ hi hs bytes holes.3 thread.1 rest)
           ]
     ]
 
@@ -63,7 +63,7 @@ next_below p k lo hi (h ∷ hs) bytes holes thread none is =
             let e = same_Some k h.from (is ∙ last_first p h hs lt last) in
             let fits = room h.from h.to words.low words.high words.some in
             let inside = words.inside in
-            (omega arith, rw (le-ltb p h.from (omega arith)) (ap (λ n. word_in bytes (n + 4)) e ∙ words.link ∙ sym (next_none p (suc h.to) hi hs holes.3 other.0 last)))
+            (omega arith, rw (le-ltb p h.from (omega arith)) (ap (λ n. word_in bytes (n + 4)) e ∙ words.link ∙ sym (next_none p _ hi hs holes.3 other.0 last)))
         | inr later ↦
             let e = same_Some k later.0 (is ∙ last_cons p later.0 h hs lt later.1) in
             rw (le-ltb p h.from (omega arith)) (next_below p k (suc h.to) hi hs bytes holes.3 thread.1 other.0 (ap (λ n. Some n) e ∙ sym later.1))

@@ -14,7 +14,7 @@ used_within a b c d (h ∷ hs) from to used = (elim used.0 [ inl before ↦ inl 
 -- what is below all holes is used
 used_below : (a b lo hi : ℕ) (hs : List Span) → b ≤ lo → AreHoles lo hi hs → IsUsed a b hs
 used_below a b lo hi [] le are = tt
-used_below a b lo hi (h ∷ hs) le are = let from = are.0 in let some = are.1 in (inr (omega arith), used_below a b (suc h.to) hi hs (omega arith) are.3)
+used_below a b lo hi (h ∷ hs) le are = let from = are.0 in let some = are.1 in (inr (omega arith), used_below a b _ hi hs (omega arith) are.3)
 
 used_join : (a b c lo hi : ℕ) (hs : List Span) → AreHoles lo hi hs → IsUsed a b hs → IsUsed b c hs → IsUsed a c hs
 used_join a b c lo hi [] are one two = tt
@@ -24,7 +24,7 @@ used_join a b c lo hi (h ∷ hs) are one two =
         | inl before ↦ inl before
         | inr behind ↦ elim two.0 [ inl under ↦ absurd (omega arith) | inr over ↦ inr over ]
       ],
-      used_join a b c (suc h.to) hi hs are.3 one.1 two.1,
+      used_join a b c _ hi hs are.3 one.1 two.1,
     )
 
 used_add : (a b from to : ℕ) (hs : List Span) → (to ≤ a) ⊎ (b ≤ from) → IsUsed a b hs → IsUsed a b (add_span from to hs)

@@ -10,7 +10,7 @@ pub low : (lo hi p : ℕ) (hs : List Span) → AreHoles lo hi hs → IsIn p hs �
 low lo hi p [] are free = absurd free
 low lo hi p (h ∷ hs) are free = let from = are.0 in let some = are.1 in elim free [
   | inl here ↦ let r = here.0 in omega arith
-  | inr rest ↦ let r = low (suc h.to) hi p hs are.3 rest in omega arith
+  | inr rest ↦ let r = low _ hi p hs are.3 rest in omega arith
 ]
 
 -- two lists of holes with the same bytes are one
@@ -154,7 +154,7 @@ used_above : (a b x t lo hi : ℕ) (hs : List Span) → a ≤ t → t < lo → A
 used_above a b x t lo hi [] le lt are used = tt
 used_above a b x t lo hi (h ∷ hs) le lt are used =
     let from = are.0 in let size = are.1 in
-    let rest = used_above a b x t (suc h.to) hi hs le (omega arith) are.3 used.1 in
+    let rest = used_above a b x t _ hi hs le (omega arith) are.3 used.1 in
     elim used.0 [
       | inl below ↦ absurd (omega arith)
       | inr above ↦ (inr (omega arith), rest)
@@ -169,7 +169,7 @@ AreHoles-joined a b lo hi (h ∷ hs) some from to are used =
       | inr le ↦ elim (cases_lt b h.from) [
         | inl above ↦ subst (AreHoles lo hi) (sym (joined_before a b h hs le above)) (from, some, to, (above, size, end, are.3))
         | inr ge ↦ subst (AreHoles lo hi) (sym (joined_touch a b h hs le ge))
-            (AreHoles-joined (min a h.from) (max b h.to) lo hi hs (omega arith) (omega arith) (omega arith) (AreHoles-low (suc h.to) lo hi hs (omega arith) are.3) (used_above a b (min a h.from) h.to (suc h.to) hi hs le (omega arith) are.3 used.1))
+            (AreHoles-joined (min a h.from) (max b h.to) lo hi hs (omega arith) (omega arith) (omega arith) (AreHoles-low _ lo hi hs (omega arith) are.3) (used_above a b _ h.to _ hi hs le (omega arith) are.3 used.1))
       ]
     ]
 

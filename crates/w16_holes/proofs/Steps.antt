@@ -27,8 +27,8 @@ AreCells-sets r ns i j v w cells apart inside = record {
   from = cells.from;
   ordered = cells.ordered;
   small = cells.small;
-  long = subst (λ n. r.hi - r.lo < r.grain * n) (sym (length-set (set ns i v) j w ∙ length-set ns i v)) cells.long;
-  reserved = subst (λ n. LAST_END - r.lo < r.grain * n) (sym (length-set (set ns i v) j w ∙ length-set ns i v)) cells.reserved;
+  long = subst (λ n. r.hi - r.lo < r.grain * n) (sym (length-set _ j w ∙ length-set ns i v)) cells.long;
+  reserved = subst (λ n. LAST_END - r.lo < r.grain * n) (sym (length-set _ j w ∙ length-set ns i v)) cells.reserved;
   apart = apart;
   inside = inside;
 }

@@ -29,14 +29,14 @@ kept_word bytes at value le = record { long = length-put_word bytes at value le;
 
 -- a word written in [x, y)
 pub kept_word_in : (x y : ℕ) (bytes : List ℕ) (at value : ℕ) → x ≤ at → at + 4 ≤ y → at + 4 ≤ length bytes → IsKept x y bytes (put_word bytes at value)
-kept_word_in x y bytes at value low high le = kept_wider at (at + 4) x y bytes (put_word bytes at value) low high (kept_word bytes at value le)
+kept_word_in x y bytes at value low high le = kept_wider at _ x y bytes _ low high (kept_word bytes at value le)
 
 pub kept_words : (bytes : List ℕ) (at size next : ℕ) → at + 8 ≤ length bytes → IsKept at (at + 8) bytes (C.put_words bytes at size next)
 kept_words bytes at size next le =
     let long = length-put_word bytes at size (omega arith) in
-    kept_trans at (at + 8) bytes (put_word bytes at size) (C.put_words bytes at size next)
-    (kept_word_in at (at + 8) bytes at size (omega arith) (omega arith) (omega arith))
-    (kept_word_in at (at + 8) (put_word bytes at size) (at + 4) next (omega arith) (omega arith) (omega arith))
+    kept_trans at _ bytes (put_word bytes at size) _
+    (kept_word_in at _ bytes at size (omega arith) (omega arith) (omega arith))
+    (kept_word_in at _ _ _ next (omega arith) (omega arith) (omega arith))
 
 pub word_kept : (x y : ℕ) (old new : List ℕ) (at : ℕ) → IsKept x y old new → (at + 4 ≤ x) ⊎ (y ≤ at) → C.word_in new at ≡ C.word_in old at
 word_kept x y old new at kept (inl below) = C.word_in-same old new at (C.part_below new old at 4 x below kept.outside.below)
@@ -61,7 +61,7 @@ words_kept h next x y old new kept beside words =
       some = words.some;
       inside = omega arith;
       size = word_kept x y old new h.from kept size_apart ∙ words.size;
-      link = word_kept x y old new (h.from + 4) kept link_apart ∙ words.link;
+      link = word_kept x y old new _ kept link_apart ∙ words.link;
     }
 
 pub thread_kept : (last : ℕ) (hs : List Span) (lo hi x y : ℕ) (old new : List ℕ) → IsKept x y old new → AreHoles lo hi hs → (hi ≤ x) ⊎ (y ≤ lo) → IsThread last hs old → IsThread last hs new
@@ -78,7 +78,7 @@ thread_kept last (h ∷ hs) lo hi x y old new kept holes beside thread =
       | inl below ↦ inl below
       | inr above ↦ inr (omega arith)
     ] in
-    (words_kept h (first_of last hs) x y old new kept first thread.0, thread_kept last hs (suc h.to) hi x y old new kept holes.3 rest thread.1)
+    (words_kept h _ x y old new kept first thread.0, thread_kept last hs _ hi x y old new kept holes.3 rest thread.1)
 
 -- Threads appended.
 
@@ -127,7 +127,7 @@ used_trans hs one two three first second = record {
 pub used_kept : (x y : ℕ) (hs : List Span) (old new : List ℕ) → IsFree x y hs → IsKept x y old new → AreSameOutside hs old new
 used_kept x y hs old new free kept = record {
   long = kept.long;
-  same = λ at n used. elim (apart x y at (at + n) hs free used) [
+  same = λ at n used. elim (apart x y at _ hs free used) [
     | inl above ↦ C.part_above new old at n y above kept.outside.above
     | inr below ↦ C.part_below new old at n x below kept.outside.below
   ];
@@ -179,7 +179,7 @@ relink old new lo hi (h ∷ []) bytes small holes thread =
         high = words.high;
         some = words.some;
         inside = omega arith;
-        size = word_kept (h.from + 4) (h.from + 4 + 4) bytes (put_word bytes (h.from + 4) new) h.from (kept_word bytes (h.from + 4) new (omega arith)) (inl (omega arith)) ∙ words.size;
+        size = word_kept (h.from + 4) (h.from + 4 + 4) bytes (put_word bytes _ new) h.from (kept_word bytes _ new (omega arith)) (inl (omega arith)) ∙ words.size;
         link = C.word_in-put_word bytes (h.from + 4) new (omega arith) small;
       },
       tt,
@@ -195,7 +195,7 @@ relink old new lo hi (h ∷ k ∷ ks) bytes small holes thread =
     let rest : IsThread new (k ∷ ks) (put_word bytes (l.0 + 4) new) =
     subst (λ o. IsThread new (k ∷ ks) (put_link bytes o new)) l.1.is (relink old new (suc h.to) hi (k ∷ ks) bytes small holes.3 thread.1) in
     subst (λ o. IsThread new (h ∷ k ∷ ks) (put_link bytes o new)) (sym is)
-    (words_kept h k.from (l.0 + 4) (l.0 + 4 + 4) bytes (put_word bytes (l.0 + 4) new) (kept_word bytes (l.0 + 4) new (omega arith)) (inl (omega arith)) thread.0, rest)
+    (words_kept h k.from (l.0 + 4) (l.0 + 4 + 4) bytes _ (kept_word bytes _ new (omega arith)) (inl (omega arith)) thread.0, rest)
 
 pub link_kept : (last value lo hi : ℕ) (hs : List Span) (bytes : List ℕ) → AreHoles lo hi hs → IsThread last hs bytes → IsKept lo hi bytes (put_link bytes (last_before hi hs) value)
 link_kept last value lo hi [] bytes holes thread = kept_refl lo hi bytes
@@ -204,7 +204,7 @@ link_kept last value lo hi (h ∷ hs) bytes holes thread =
     let low = l.1.low in
     let high = l.1.high in
     let inside = l.1.inside in
-    subst (λ o. IsKept lo hi bytes (put_link bytes o value)) (sym l.1.is) (kept_word_in lo hi bytes (l.0 + 4) value (omega arith) (omega arith) (omega arith))
+    subst (λ o. IsKept lo hi bytes (put_link bytes o value)) (sym l.1.is) (kept_word_in lo hi bytes _ value (omega arith) (omega arith) (omega arith))
 
 -- bytes of holes alone are written there
 pub link_used : (last value lo hi : ℕ) (hs all : List Span) (bytes : List ℕ) → ((x y : ℕ) → IsFree x y hs → IsFree x y all) → AreHoles lo hi hs → IsThread last hs bytes → AreSameOutside all bytes (put_link bytes (last_before hi hs) value)
@@ -213,7 +213,7 @@ link_used last value lo hi (h ∷ hs) all bytes among holes thread =
     let l = last_of last lo hi h hs bytes holes thread in
     let inside = l.1.inside in
     let word = among (l.0 + 4) (l.0 + 4 + 4) (free_part l.0 (l.0 + 8) (l.0 + 4) (l.0 + 4 + 4) (h ∷ hs) (omega arith) (omega arith) l.1.free) in
-    subst (λ o. AreSameOutside all bytes (put_link bytes o value)) (sym l.1.is) (used_kept (l.0 + 4) (l.0 + 4 + 4) all bytes (put_word bytes (l.0 + 4) value) word (kept_word bytes (l.0 + 4) value (omega arith)))
+    subst (λ o. AreSameOutside all bytes (put_link bytes o value)) (sym l.1.is) (used_kept _ _ all bytes _ word (kept_word bytes _ value (omega arith)))
 
 -- there is room for its link
 pub link_fits : (last lo hi : ℕ) (hs : List Span) (bytes : List ℕ) → AreHoles lo hi hs → IsThread last hs bytes → C.IfSome (last_before hi hs) (λ x. x + 8 ≤ length bytes)

@@ -27,9 +27,9 @@ last_more ns i None z is = λ j to. elim (cases_lt j i) [
 
 pub last_told : (ns : List ℕ) (i : ℕ) → IsLastOf ns i (last_below ns i)
 last_told ns zero = λ j lt. absurd (omega arith)
-last_told ns (suc i) = elim (cases_lt 0 (slice_index ns i)) [
+last_told ns (suc i) = elim (cases_lt 0 _) [
   | inl some ↦ rw (lt-ltb 0 (slice_index ns i) some) (omega arith, some, λ j from to. absurd (omega arith))
-  | inr none ↦ rw (le-ltb 0 (slice_index ns i) none) (last_more ns i (last_below ns i) (omega arith) (last_told ns i))
+  | inr none ↦ rw (le-ltb 0 (slice_index ns i) none) (last_more ns i _ (omega arith) (last_told ns i))
 ]
 
 get_or-replicate_zero : (n j : ℕ) → slice_index (replicate n 0) j ≡ 0
@@ -377,6 +377,6 @@ AreCells-one r n some from ordered small long reserved =
       small = small;
       long = subst (λ (m : ℕ). r.hi - r.lo < r.grain * m) (sym (same ∙ all)) long;
       reserved = subst (λ (m : ℕ). C.LAST_END - r.lo < r.grain * m) (sym (same ∙ all)) reserved;
-      apart = IsApart-set r.grain zeros 0 (r.hi - r.lo) (omega arith) (record { apart = λ k j has. let z = none k in absurd (omega arith) }) (λ has j lt. absurd (omega arith)) (λ has j lt other. let z = none j in absurd (omega arith));
-      inside = IsInside-set r.grain zeros 0 (r.hi - r.lo) (omega arith) (r.hi - r.lo) (record { inside = λ k has. let z = none k in absurd (omega arith) }) (λ has. omega arith);
+      apart = IsApart-set r.grain zeros 0 _ (omega arith) (record { apart = λ k j has. let z = none k in absurd (omega arith) }) (λ has j lt. absurd (omega arith)) (λ has j lt other. let z = none j in absurd (omega arith));
+      inside = IsInside-set r.grain zeros 0 _ (omega arith) _ (record { inside = λ k has. let z = none k in absurd (omega arith) }) (λ has. omega arith);
     }

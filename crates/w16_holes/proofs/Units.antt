@@ -33,7 +33,7 @@ whole_units g lo place some le low high =
     let less = at_most g low.0 high.0 some (omega arith) in
     let sum : high.0 ≡ low.0 + (high.0 - low.0) = omega arith in
     let parts = ap (λ n. g * n) sum in
-    divided g (place - lo) (high.0 - low.0) some (omega arith)
+    divided g _ (high.0 - low.0) some (omega arith)
 
 pub multiple_sum : (g a b : ℕ) → IsMultiple g a → IsMultiple g b → IsMultiple g (a + b)
 multiple_sum g a b one two = let e = one.1 in let f = two.1 in (one.0 + two.0, omega arith)

@@ -16,8 +16,8 @@ apart a b x y (h ∷ hs) free used = elim free [
 pub AreSameIn-put_part : (hs : List Span) (bytes : List ℕ) (to : ℕ) (new : List ℕ) → to + length new ≤ length bytes → C.IsUsed to (to + length new) hs → C.AreSameIn hs bytes (put_part bytes to new)
 AreSameIn-put_part hs bytes to new le used = record {
   long = C.length-put_part bytes to new le;
-  same = λ at n free. elim (apart at (at + n) to (to + length new) hs free used) [
-    | inl below ↦ C.part_below (put_part bytes to new) bytes at n to below (C.take-put_part bytes to new to (omega arith) (omega arith))
-    | inr above ↦ C.part_above (put_part bytes to new) bytes at n (to + length new) above (C.drop-put_part bytes to new (to + length new) (omega arith) le)
+  same = λ at n free. elim (apart at _ to _ hs free used) [
+    | inl below ↦ C.part_below _ bytes at n to below (C.take-put_part bytes to new to (omega arith) (omega arith))
+    | inr above ↦ C.part_above _ bytes at n _ above (C.drop-put_part bytes to new _ (omega arith) le)
   ];
 }

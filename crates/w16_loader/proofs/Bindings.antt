@@ -101,7 +101,7 @@ member_there : (h : ℕ) (hs : List ℕ) (i : ℕ) (rest : List ℕ) → drop i 
 member_there h [] zero rest e = cc
 member_there h [] (suc i) rest e = cc
 member_there h (x ∷ xs) zero rest e = let same : x ≡ h = cc in ap (λ b. b || is_member h xs) (C.eq-eqb x h same)
-member_there h (x ∷ xs) (suc i) rest e = ap (λ b. (x == h) || b) (member_there h xs i rest e) ∙ or_true (x == h)
+member_there h (x ∷ xs) (suc i) rest e = ap (λ b. (x == h) || b) (member_there h xs i rest e) ∙ or_true _
 
 first_same : {X : Type 0} (x y : X) (xs ys : List X) → x ∷ xs ≡ y ∷ ys → x ≡ y
 first_same x y xs ys e = cc

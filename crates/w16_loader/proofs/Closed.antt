@@ -23,7 +23,7 @@ long_as P (x ∷ xs) [] h = absurd h
 long_as P (x ∷ xs) (y ∷ ys) h = let rest = long_as P xs ys h.1 in omega arith
 
 zipped : (P : ℕ → ModuleFile → Type 0) (place : ℕ) (fs : List Found) (hs : List ℕ) (ss : List (List ℕ)) → length hs ≡ length fs → length ss ≡ length fs
-    → ((g : Given) → Member g (given_from place fs hs ss) → P g.handle g.found.read) → AllZip P hs (map (λ (f : Found). f.read) fs)
+    → ((g : Given) → Member g (given_from place fs hs ss) → P g.handle g.found.read) → AllZip P hs (map (λ f. f.read) fs)
 zipped P place [] [] ss many long all = tt
 zipped P place [] (h ∷ hs) ss many long all = absurd (omega arith)
 zipped P place (f ∷ fs) [] ss many long all = absurd (omega arith)
@@ -48,7 +48,7 @@ slots_are module_of slots modules place (f ∷ fs) [] ss many long there = absur
 slots_are module_of slots modules place (f ∷ fs) (h ∷ hs) [] many long there = absurd (omega arith)
 slots_are module_of slots modules place (f ∷ fs) (h ∷ hs) (s ∷ ss) many long there =
     let g : Given = record { place = place; found = f; handle = h; slots = s } in
-    ap (λ (p : Option Module). C.unwrap_or (C.option_map (λ (m : Module). m.slots) p) [] ++ flat_map (slots_at modules) hs) (there g (inl refl))
+    ap (λ p. C.unwrap_or (C.option_map (λ m. m.slots) p) [] ++ flat_map (slots_at modules) hs) (there g (inl refl))
     ∙ ap (λ xs. xs ++ flat_map (slots_at modules) hs) (slots g)
     ∙ ap (λ xs. s ++ xs) (slots_are module_of slots modules (place + 1) fs hs ss (omega arith) (omega arith) (λ x m. there x (inr m)))
 
@@ -58,12 +58,12 @@ zip_all P [] (g ∷ gs) same all = absurd (omega arith)
 zip_all P (q ∷ qs) [] same all = absurd (omega arith)
 zip_all P (q ∷ qs) (g ∷ gs) same all = (all (q, g) (inl refl), zip_all P qs gs (omega arith) (λ x m. all x (inr m)))
 
-read_targets : (look : C.Lookup) (first : Given → Module) (fs : List Found) → map (λ (read : ModuleFile). map targets_of read.segments) (map (λ (f : Found). f.read) fs) ≡ targets_in look first fs
+read_targets : (look : C.Lookup) (first : Given → Module) (fs : List Found) → map (λ read. map targets_of read.segments) (map (λ f. f.read) fs) ≡ targets_in look first fs
 read_targets look first [] = refl
 read_targets look first (f ∷ fs) = ap (λ ts. map targets_of f.read.segments ∷ ts) (read_targets look first fs)
 
 each_long : (modules : Modules) (first : Given → Module) → ((g : Given) → (first g).tables ≡ g.found.read.tables) → (place : ℕ) (fs : List Found) (hs : List ℕ) (ss : List (List ℕ)) (targets : List (List (List Target))) → length hs ≡ length fs → length ss ≡ length fs
-    → ((g : Given) → Member g (given_from place fs hs ss) → module_at modules g.handle ≡ Some (first g)) → AreTargets modules hs targets → AllZip (λ (f : Found) (ts : List (List Target)). length ts ≡ length f.read.tables.segments) fs targets
+    → ((g : Given) → Member g (given_from place fs hs ss) → module_at modules g.handle ≡ Some (first g)) → AreTargets modules hs targets → AllZip (λ f ts. length ts ≡ length f.read.tables.segments) fs targets
 each_long modules first tables place [] [] ss [] many long there are = tt
 each_long modules first tables place [] [] ss (ts ∷ targets) many long there are = are
 each_long modules first tables place [] (h ∷ hs) ss targets many long there are = absurd (omega arith)
@@ -72,7 +72,7 @@ each_long modules first tables place (f ∷ fs) (h ∷ hs) [] targets many long 
 each_long modules first tables place (f ∷ fs) (h ∷ hs) (s ∷ ss) [] many long there are = are
 each_long modules first tables place (f ∷ fs) (h ∷ hs) (s ∷ ss) (ts ∷ targets) many long there are =
     let g : Given = record { place = place; found = f; handle = h; slots = s } in (
-      subst (λ (p : Option Module). IfSome p (λ m. length ts ≡ length m.tables.segments)) (there g (inl refl)) are.0 ∙ ap (λ (t : C.Tables). length t.segments) (tables g),
+      subst (λ p. IfSome p (λ m. length ts ≡ length m.tables.segments)) (there g (inl refl)) are.0 ∙ ap (λ t. length t.segments) (tables g),
       each_long modules first tables (place + 1) fs hs ss targets (omega arith) (omega arith) (λ x m. there x (inr m)) are.1,
     )
 

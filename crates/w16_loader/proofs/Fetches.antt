@@ -62,7 +62,7 @@ pub relocated : (t : Tables) (source : List ℕ) (records : List C.Record) (valu
     → (table : List ℕ) × IsSoundSegment (any_offer (length t.segments) (length t.references)) source table (length values) records → length source ≤ n → length bytes ≡ n → IsRelocatedBy t values bytes
 relocated t source records values bytes n are (table, sound) room long =
     let fits : length source ≤ length bytes = omega (arith, room, long) in
-    record { source = source; table = table; records = records; sound = sound; fits = fits; image = are.image sound.sound.0 sound.sound.1 fits; words = are.words }
+    record { source = source; table = table; records = records; sound = sound; fits = fits; image = are.image _ sound.sound.1 fits; words = are.words }
 
 -- Over a file that says what it said at load.
 
@@ -199,7 +199,7 @@ pub fetches : (honest : Type 0) (world : LoadingWorld) (slot number : ℕ) (name
     → GivesSegment honest world.files name t number values before after world.handles slot fault new → FetchesFrom FillsFewest (told honest ne_format world.files before after) world slot fault (record world { handles = new })
 unfolding sound source
 fetches honest world slot number name t values last is before after fault new =
-    owned_fetch honest (IsSoundSource honest world.files name t number values world.handles slot) (source honest world slot number name t values is last) _ world slot
+    owned_fetch honest _ (source honest world slot number name t values is last) _ world slot
     (λ bytes sized read. (
       given honest world slot number name t values is last bytes sized read.0,
       λ h. inl (is.handle, number, is.m, is.segment, bytes_are honest world slot number name t values is last h ∙ ap Some (sym (read.1 (source honest world slot number name t values is last h)))),

@@ -25,14 +25,14 @@ unfolding position_by
 position_map p f xs = ap (λ at. position_by at (length (map f xs))) (prefix_map (λ y. not (p y)) f xs) ∙ ap (position_by (C.position_or_len (λ x. p (f x)) xs)) (C.length-map xs f)
 
 place_named : {A : Type 0} (files : Files) (found : List (Found A)) (name : List ℕ)
-    → position (λ (f : closing.Found). is_named f.read.tables.name name) (map (found_in files) found) ≡ position (λ f. is_named f.module.name name) found
-place_named files found name = position_map (λ (f : closing.Found). is_named f.read.tables.name name) (found_in files) found
+    → position (λ f. is_named f.read.tables.name name) (map (found_in files) found) ≡ position (λ f. is_named f.module.name name) found
+place_named files found name = position_map (λ f. is_named _ name) _ found
 
 pub means_new : {A : Type 0} (modules : C.Modules) (files : Files) (found : List (Found A)) (name : List ℕ) (place : Option ℕ) → None ≡ C.handle_named modules name → place ≡ position (λ f. is_named f.module.name name) found
     → option_map New place ≡ closing.meant (C.around_in modules files) (map (found_in files) found) name
 means_new modules files found name place none is =
     ap (option_map New) (is ∙ sym (place_named files found name))
-    ∙ ap (λ handle. C.option_or (option_map There handle) (option_map New (position (λ (f : closing.Found). is_named f.read.tables.name name) (map (found_in files) found)))) none
+    ∙ ap (λ handle. C.option_or (option_map There handle) (option_map New (position (λ f. is_named f.read.tables.name name) (map (found_in files) found)))) none
 
 -- Files.
 
@@ -47,12 +47,12 @@ is_refused (Some bytes) n start before after faults.OutOfMemory le there all h =
 is_refused (Some bytes) n start before after (faults.Store stores.Device) le there all h = omega arith
 is_refused (Some bytes) n start before after (faults.Store stores.Missing) le there all h = cc
 is_refused (Some bytes) n start before after (faults.Store stores.Short) le there all h = absurd h
-is_refused (Some bytes) n start before after faults.NotMz le there all h = refused bytes faults.NotMz all h
-is_refused (Some bytes) n start before after faults.NotNe le there all h = refused bytes faults.NotNe all h
-is_refused (Some bytes) n start before after (faults.Target system) le there all h = refused bytes (faults.Target system) all h
-is_refused (Some bytes) n start before after faults.Unsupported le there all h = refused bytes faults.Unsupported all h
-is_refused (Some bytes) n start before after faults.Truncated le there all h = refused bytes faults.Truncated all h
-is_refused (Some bytes) n start before after faults.BadTable le there all h = refused bytes faults.BadTable all h
+is_refused (Some bytes) n start before after faults.NotMz le there all h = refused bytes _ all h
+is_refused (Some bytes) n start before after faults.NotNe le there all h = refused bytes _ all h
+is_refused (Some bytes) n start before after (faults.Target system) le there all h = refused bytes _ all h
+is_refused (Some bytes) n start before after faults.Unsupported le there all h = refused bytes _ all h
+is_refused (Some bytes) n start before after faults.Truncated le there all h = refused bytes _ all h
+is_refused (Some bytes) n start before after faults.BadTable le there all h = refused bytes _ all h
 
 -- Segments.
 

@@ -84,19 +84,19 @@ zip_long : {A B : Type 0} (R : A → B → Type 0) (xs : List A) (ys : List B) �
 zip_long R [] [] h = refl
 zip_long R [] (y ∷ ys) h = absurd h
 zip_long R (x ∷ xs) [] h = absurd h
-zip_long R (x ∷ xs) (y ∷ ys) h = let rest : length ys ≡ length xs = zip_long R xs ys h.1 in omega (arith, rest)
+zip_long R (x ∷ xs) (y ∷ ys) h = let rest = zip_long R xs ys h.1 in omega (arith, rest)
 
 -- each of a module's segments is there with its data and values
 pub part_at : (m : Module) (read : ModuleFile) → C.IsReadAs m read → (i : ℕ) → i < length m.tables.segments → Part m read i
 part_at m read is i lt =
-    let data_many : length read.segments ≡ length read.tables.segments = zip_long _ read.tables.segments read.segments is.is_file.segments in
-    let tables_many : length read.tables.segments ≡ length m.tables.segments = ap (λ (t : C.Tables). length t.segments) is.tables in
-    let slots_many : length m.slots ≡ length m.tables.segments = is.slots in
-    let values_many : length m.values ≡ length m.tables.segments = is.values in
+    let data_many = zip_long _ read.tables.segments read.segments is.is_file.segments in
+    let tables_many = ap (λ t. length t.segments) is.tables in
+    let slots_many = is.slots in
+    let values_many = is.values in
     let slot = there m.slots i (omega (arith, slots_many, lt)) in
-    let segment = there m.tables.segments i lt in
-    let its_data = there read.segments i (omega (arith, data_many, tables_many, lt)) in
-    let its_values = there m.values i (omega (arith, values_many, lt)) in
+    let segment = there _ i lt in
+    let its_data = there _ i (omega (arith, data_many, tables_many, lt)) in
+    let its_values = there _ i (omega (arith, values_many, lt)) in
     record { slot = slot.0; segment = segment.0; its_data = its_data.0; its_values = its_values.0; slot_at = slot.1; segment_at = segment.1; data_at = its_data.1; values_at = its_values.1 }
 
 -- places of two lists that go together
@@ -113,8 +113,8 @@ at_none slots slot all i e = Each-at (λ q. q ≢ slot) slots (C.Each-from_All (
 -- the object of a segment has no bytes while only those of segments before it got theirs
 pub part_unfilled : (m : Module) (read : ModuleFile) (old now : Handles) (done j : ℕ) → j ≡ done → HasUnfilled old m → (part : Part m read j)
     → ((slot : ℕ) (s : Segment) → ((i : ℕ) → i < done → slice_get m.slots i ≢ Some slot) → IsUnfilled old slot s → IsUnfilled now slot s) → IsUnfilled now part.slot part.segment
-part_unfilled m read old now done j same empty part keeps = keeps part.slot part.segment
-    (λ i lt e. let here : i ≡ j = C.one_place m.slots i j part.slot (C.EachPair-from_AllPairs (λ (a b : ℕ). a ≢ b) m.slots empty.apart) e part.slot_at in omega (arith, here, same, lt))
+part_unfilled m read old now done j same empty part keeps = keeps _ _
+    (λ i lt e. let here = C.one_place m.slots i j _ (C.EachPair-from_AllPairs (λ a b. a ≢ b) m.slots empty.apart) e part.slot_at in omega (arith, here, same, lt))
     (zipped_at (IsUnfilled old) m.slots m.tables.segments empty.objects j part.slot part.segment part.slot_at part.segment_at)
 
 -- Modules.
@@ -132,8 +132,8 @@ zip_kept old new (q ∷ qs) (s ∷ ss) keeps h = (keeps q s (inl refl) h.0, zip_
 
 in_all : (modules : Modules) (hs : List ℕ) (h q : ℕ) → Member h hs → Member q (slots_at modules h) → Member q (flat_map (slots_at modules) hs)
 in_all modules [] h q m n = absurd m
-in_all modules (k ∷ hs) h q (inl e) n = C.in_first q (slots_at modules k) (flat_map (slots_at modules) hs) (subst (λ i. Member q (slots_at modules i)) e n)
-in_all modules (k ∷ hs) h q (inr m) n = C.in_second q (slots_at modules k) (flat_map (slots_at modules) hs) (in_all modules hs h q m n)
+in_all modules (k ∷ hs) h q (inl e) n = C.in_first q (slots_at modules k) (flat_map _ hs) (subst (λ i. Member q (slots_at modules i)) e n)
+in_all modules (k ∷ hs) h q (inr m) n = C.in_second q (slots_at modules k) (flat_map _ hs) (in_all modules hs h q m n)
 
 apart_from : (s more : List ℕ) (q : ℕ) → EachPair (λ a b. a ≢ b) (s ++ more) → Member q s → Member q more → ⊥
 apart_from [] more q differ m n = m
@@ -170,7 +170,7 @@ module _ (modules : Modules) (old : Handles) (h : ℕ) (hs : List ℕ) (left : L
 pub all_left : (modules : Modules) (handles : Handles) (hs : List ℕ) → C.AreUnfilled modules handles hs → Left modules handles hs
 all_left modules handles hs are = record {
   objects = C.Each-from_All (λ h. IfSome (module_at modules h) (λ m. AllZip (IsUnfilled handles) m.slots m.tables.segments)) hs are.objects;
-  apart = C.EachPair-from_AllPairs (λ (a b : ℕ). a ≢ b) (flat_map (slots_at modules) hs) are.apart;
+  apart = C.EachPair-from_AllPairs (λ a b. a ≢ b) _ are.apart;
 }
 
 -- how far the fillings of modules have come
@@ -186,8 +186,8 @@ none_with modules place hs reads e = ap (λ ks. fills_with modules place ks read
 
 pub reached_last : (gives : Giving) (modules : Modules) (old now : Handles) (hs : List ℕ) (reads : List ModuleFile) (place : ℕ) → length hs ≤ place → Reached gives modules old now hs reads place
     → InTurn gives old.heap (fills_with modules 0 hs reads) None now.heap
-reached_last gives modules old now hs reads place le r = all_done gives old.heap now.heap (fills_with modules 0 hs reads) (fills_with modules place (drop place hs) (drop place reads)) r.goes
-    (none_with modules place (drop place hs) (drop place reads) (C.drop_all place hs le))
+reached_last gives modules old now hs reads place le r = all_done gives _ _ _ _ r.goes
+    (none_with modules place _ _ (C.drop_all place hs le))
 
 module _ (gives : Giving) (modules : Modules) (old now next : Handles) (hs : List ℕ) (reads : List ModuleFile) (place h : ℕ) (read : ModuleFile) (m : Module) (at : slice_get hs place ≡ Some h) (its : slice_get reads place ≡ Some read)
     (found : module_at modules h ≡ Some m) (reached : Reached gives modules old now hs reads place) where
@@ -232,20 +232,20 @@ here (h ∷ hs) (suc place) lt = here hs place (omega (arith, lt))
 
 named_by : (modules : Modules) (R : Module → ModuleFile → Type 0) (hs : List ℕ) (reads : List ModuleFile) → AllZip (λ h read. IsSomeAnd (module_at modules h) (λ m. R m read)) hs reads → (place h : ℕ) → slice_get hs place ≡ Some h
     → Named modules h reads place
-named_by modules R hs reads all place h at = turn (slice_get reads place) refl
-    (subst (λ p. C.MatchOption p (Unit {0}) (λ k. IsSomeAnd (slice_get reads place) (λ read. IsSomeAnd (module_at modules k) (λ m. R m read)))) at (C.AllZip-left (λ k read. IsSomeAnd (module_at modules k) (λ m. R m read)) hs reads all place))
+named_by modules R hs reads all place h at = turn _ refl
+    (subst (λ p. C.MatchOption p (Unit {0}) (λ k. IsSomeAnd (slice_get reads place) (λ read. IsSomeAnd (module_at modules k) (λ m. R m read)))) at (C.AllZip-left (λ k read. IsSomeAnd _ (λ m. R m read)) hs reads all place))
   where
     turn : (p : Option ModuleFile) → slice_get reads place ≡ p → IsSomeAnd p (λ read. IsSomeAnd (module_at modules h) (λ m. R m read)) → Named modules h reads place
     turn None e has = absurd has
-    turn (Some read) e has = let m = some_at (λ (m : Module). R m read) (module_at modules h) has in record { read = read; read_at = e; m = m.0; found = m.1 }
+    turn (Some read) e has = let m = some_at (λ m. R m read) _ has in record { read = read; read_at = e; m = m.0; found = m.1 }
 
 pub named_at : (modules : Modules) (R : Module → ModuleFile → Type 0) (hs : List ℕ) (reads : List ModuleFile) → AllZip (λ h read. IsSomeAnd (module_at modules h) (λ m. R m read)) hs reads → (place : ℕ) → place < length hs
     → Named modules (get_or hs place 0) reads place
-named_at modules R hs reads all place lt = named_by modules R hs reads all place (get_or hs place 0) (here hs place lt)
+named_at modules R hs reads all place lt = named_by modules R hs reads all place _ (here hs place lt)
 
 pub its_at : (modules : Modules) (R : Module → ModuleFile → Type 0) (hs : List ℕ) (reads : List ModuleFile) → AllZip (λ h read. IsSomeAnd (module_at modules h) (λ m. R m read)) hs reads → (place h : ℕ) → slice_get hs place ≡ Some h
     → (named : Named modules h reads place) → R named.m named.read
-its_at modules R hs reads all place h at named = subst (λ (p : Option Module). IsSomeAnd p (λ m. R m named.read)) named.found (zipped_at (λ k read. IsSomeAnd (module_at modules k) (λ m. R m read)) hs reads all place h named.read at named.read_at)
+its_at modules R hs reads all place h at named = subst (λ p. IsSomeAnd p (λ m. R m named.read)) named.found (zipped_at (λ k read. IsSomeAnd _ (λ m. R m read)) hs reads all place h named.read at named.read_at)
 
 pub one_module : (n m : Module) → Some n ≡ Some m → n ≡ m
 one_module n m e = cc

@@ -10,7 +10,7 @@ use Rattle.std.specs.FinMap as finmap
 pub indexed : {A : Type 0} (found : List (Found A)) (place number : ℕ) (f : Found A) → 0 < number → number ≤ length (references_at found place) → f ≡ C.slice_index_or found place f
     → (slice_get found place ≡ Some f) × (number ≤ length f.module.references)
 indexed [] place number f some le e = absurd (omega (arith, some, le))
-indexed (g ∷ gs) zero number f some le e = (ap Some (sym e), subst (λ (h : Found _). number ≤ length h.module.references) (sym e) le)
+indexed (g ∷ gs) zero number f some le e = (ap Some (sym e), subst (λ h. number ≤ length h.module.references) (sym e) le)
 indexed (g ∷ gs) (suc place) number f some le e = indexed gs place number f some le e
 
 -- a new module comes after those that are there
@@ -25,7 +25,7 @@ same_after found place f (leads.New g) e = same_at found place f g e
 
 -- no more handles are free than there are
 pub few_free : (modules : C.Modules) → C.free_modules modules ≤ C.MOST_MODULES
-few_free modules = less C.MOST_MODULES (finmap.len modules)
+few_free modules = less _ _
   where
     less : (m n : ℕ) → m - n ≤ m
     less m n = omega arith

@@ -20,12 +20,12 @@ first_from modules h lt = let one : FIRST_MODULE + MOST_MODULES - h ≡ suc (FIR
 
 pub handle_more : (modules : Modules) (count h : ℕ) (made : List ℕ) → h < FIRST_MODULE + MOST_MODULES → is_free modules h ≡ true → take count ((made ++ h ∷ []) ++ free_from modules (h + 1)) ≡ take count (made ++ free_from modules h)
 handle_more modules count h made lt free =
-    ap (take count) (C.append_assoc made (h ∷ []) (free_from modules (h + 1)))
-    ∙ ap (λ (r : List ℕ). take count (made ++ r)) (sym (first_from modules h lt ∙ ap (λ b. cond {A = List ℕ} b (h ∷ free_from modules (h + 1)) (free_from modules (h + 1))) free))
+    ap (take count) (C.append_assoc made _ _)
+    ∙ ap (λ r. take count (made ++ r)) (sym (first_from modules h lt ∙ ap (λ b. cond {A = List ℕ} b (h ∷ free_from modules (h + 1)) (free_from modules (h + 1))) free))
 
 pub handle_taken : (modules : Modules) (count h : ℕ) (made : List ℕ) → h < FIRST_MODULE + MOST_MODULES → is_free modules h ≡ false → take count (made ++ free_from modules (h + 1)) ≡ take count (made ++ free_from modules h)
 handle_taken modules count h made lt free =
-    ap (λ (r : List ℕ). take count (made ++ r)) (sym (first_from modules h lt ∙ ap (λ b. cond {A = List ℕ} b (h ∷ free_from modules (h + 1)) (free_from modules (h + 1))) free))
+    ap (λ r. take count (made ++ r)) (sym (first_from modules h lt ∙ ap (λ b. cond {A = List ℕ} b (h ∷ free_from modules (h + 1)) (free_from modules (h + 1))) free))
 
 pub enough : (count : ℕ) (made xs ys : List ℕ) → count ≤ length made → take count (made ++ xs) ≡ take count (made ++ ys)
 enough count made xs ys le = C.take-append-le count made xs le ∙ sym (C.take-append-le count made ys le)
@@ -42,14 +42,14 @@ none_is None t = refl
 none_is (Some x) t = absurd (false≢true t)
 
 handles_free : (modules : Modules) → Each (IsFreeModule modules) (free_handles modules)
-handles_free modules = C.Each-from (IsFreeModule modules) (free_handles modules) (λ h m.
-    let r : C.Member h (range_with_len FIRST_MODULE MOST_MODULES) × C.IsTrue (is_free modules h) = C.member_filter (is_free modules) (range_with_len FIRST_MODULE MOST_MODULES) h m in
-    let inside : (FIRST_MODULE ≤ h) × (h < FIRST_MODULE + MOST_MODULES) = in_range MOST_MODULES FIRST_MODULE h r.0 in
-    (inside.0, inside.1, none_is (finmap.get modules h) r.1))
+handles_free modules = C.Each-from _ _ (λ h m.
+    let r = C.member_filter (is_free modules) (range_with_len FIRST_MODULE MOST_MODULES) h m in
+    let inside = in_range MOST_MODULES _ h r.0 in
+    (inside.0, inside.1, none_is _ r.1))
 
 range_apart : (n a : ℕ) → EachPair (λ a b. a ≢ b) (range_with_len a n)
 range_apart zero a = tt
-range_apart (suc n) a = (C.Each-from (λ b. a ≢ b) (range_with_len (a + 1) n) (λ q m e. let r : (a + 1 ≤ q) × (q < a + 1 + n) = in_range n (a + 1) q m in let le : a + 1 ≤ q = r.0 in absurd (omega (arith, le, e))), range_apart n (a + 1))
+range_apart (suc n) a = (C.Each-from (λ b. a ≢ b) _ (λ q m e. let r = in_range n (a + 1) q m in let le = r.0 in absurd (omega (arith, le, e))), range_apart n (a + 1))
 
 handles_apart : (modules : Modules) → EachPair (λ a b. a ≢ b) (free_handles modules)
 handles_apart modules = C.pairs_filter (λ a b. a ≢ b) (is_free modules) (range_with_len FIRST_MODULE MOST_MODULES) (range_apart MOST_MODULES FIRST_MODULE)
@@ -65,17 +65,17 @@ pairs_of_first R (suc k) [] h = tt
 pairs_of_first R (suc k) (x ∷ xs) h = (each_of_first (R x) k xs h.0, pairs_of_first R k xs h.1)
 
 pub lowest_free : (modules : Modules) (count : ℕ) (hs : List ℕ) → hs ≡ take count (free_handles modules) → All (IsFreeModule modules) hs
-lowest_free modules count hs e = subst (All (IsFreeModule modules)) (sym e) (C.All-from_Each (IsFreeModule modules) (take count (free_handles modules)) (each_of_first (IsFreeModule modules) count (free_handles modules) (handles_free modules)))
+lowest_free modules count hs e = subst (All (IsFreeModule modules)) (sym e) (C.All-from_Each (IsFreeModule modules) _ (each_of_first _ count _ (handles_free modules)))
 
 pub lowest_apart : (modules : Modules) (count : ℕ) (hs : List ℕ) → hs ≡ take count (free_handles modules) → AllPairs ◌≢◌ hs
-lowest_apart modules count hs e = subst (AllPairs ◌≢◌) (sym e) (C.AllPairs-from_EachPair (λ a b. a ≢ b) (take count (free_handles modules)) (pairs_of_first (λ a b. a ≢ b) count (free_handles modules) (handles_apart modules)))
+lowest_apart modules count hs e = subst (AllPairs ◌≢◌) (sym e) (C.AllPairs-from_EachPair (λ a b. a ≢ b) _ (pairs_of_first (λ a b. a ≢ b) count (free_handles modules) (handles_apart modules)))
 
 -- the first of those that are free are such too
 pub all_of_first : {X : Type 0} (P : X → Type 0) (k : ℕ) (xs : List X) → All P xs → All P (take k xs)
-all_of_first P k xs h = C.All-from_Each P (take k xs) (each_of_first P k xs (C.Each-from_All P xs h))
+all_of_first P k xs h = C.All-from_Each P _ (each_of_first P k xs (C.Each-from_All P xs h))
 
 pub apart_of_first : (k : ℕ) (xs : List ℕ) → AllPairs ◌≢◌ xs → AllPairs ◌≢◌ (take k xs)
-apart_of_first k xs h = C.AllPairs-from_EachPair (λ a b. a ≢ b) (take k xs) (pairs_of_first (λ a b. a ≢ b) k xs (C.EachPair-from_AllPairs (λ a b. a ≢ b) xs h))
+apart_of_first k xs h = C.AllPairs-from_EachPair (λ a b. a ≢ b) _ (pairs_of_first (λ a b. a ≢ b) k xs (C.EachPair-from_AllPairs (λ a b. a ≢ b) xs h))
 
 -- How many there are, in a table.
 

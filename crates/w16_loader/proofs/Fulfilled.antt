@@ -9,30 +9,30 @@ use Rattle.std.specs.FinMap as finmap
 
 alike : (f : Given → Module) (gs : List Given) (x y : Modules) (q : ℕ) → finmap.get x q ≡ finmap.get y q → finmap.get (with_modules f gs x) q ≡ finmap.get (with_modules f gs y) q
 alike f [] x y q e = e
-alike f (g ∷ gs) x y q e = alike f gs (finmap.insert x g.handle (Loaded (f g))) (finmap.insert y g.handle (Loaded (f g))) q (elim (cases_eq q g.handle) [
-  | inl d ↦ inserted_here x g.handle (Loaded (f g)) q d ∙ sym (inserted_here y g.handle (Loaded (f g)) q d)
-  | inr d ↦ inserted_other x g.handle (Loaded (f g)) q d ∙ e ∙ sym (inserted_other y g.handle (Loaded (f g)) q d)
+alike f (g ∷ gs) x y q e = alike f gs _ _ q (elim (cases_eq q _) [
+  | inl d ↦ inserted_here x _ _ q d ∙ sym (inserted_here y _ _ q d)
+  | inr d ↦ inserted_other x _ _ q d ∙ e ∙ sym (inserted_other y _ _ q d)
 ])
 
 insert_first : (f : Given → Module) (gs : List Given) (x : Modules) (h : ℕ) (n : Named) → ((g : Given) → Member g gs → h ≢ g.handle)
     → finmap.insert (with_modules f gs x) h n ≡ with_modules f gs (finmap.insert x h n)
-insert_first f gs x h n out = C.same_values (finmap.insert (with_modules f gs x) h n) (with_modules f gs (finmap.insert x h n)) (λ q. elim (cases_eq q h) [
-  | inl e ↦ inserted_here (with_modules f gs x) h n q e ∙ sym (ap (finmap.get (with_modules f gs (finmap.insert x h n))) e ∙ C.put_all f gs (finmap.insert x h n) h out ∙ inserted_here x h n h refl)
-  | inr d ↦ inserted_other (with_modules f gs x) h n q d ∙ alike f gs x (finmap.insert x h n) q (sym (inserted_other x h n q d))
+insert_first f gs x h n out = C.same_values _ _ (λ q. elim (cases_eq q h) [
+  | inl e ↦ inserted_here _ h n q e ∙ sym (ap (finmap.get _) e ∙ C.put_all f gs _ h out ∙ inserted_here x h n h refl)
+  | inr d ↦ inserted_other _ h n q d ∙ alike f gs x _ q (sym (inserted_other x h n q d))
 ])
 
 insert_twice : (x : Modules) (h : ℕ) (m n : Named) → finmap.insert (finmap.insert x h m) h n ≡ finmap.insert x h n
-insert_twice x h m n = C.same_values (finmap.insert (finmap.insert x h m) h n) (finmap.insert x h n) (λ q. elim (cases_eq q h) [
-  | inl e ↦ inserted_here (finmap.insert x h m) h n q e ∙ sym (inserted_here x h n q e)
-  | inr d ↦ inserted_other (finmap.insert x h m) h n q d ∙ inserted_other x h m q d ∙ sym (inserted_other x h n q d)
+insert_twice x h m n = C.same_values _ _ (λ q. elim (cases_eq q h) [
+  | inl e ↦ inserted_here _ h n q e ∙ sym (inserted_here x h n q e)
+  | inr d ↦ inserted_other _ h n q d ∙ inserted_other x h m q d ∙ sym (inserted_other x h n q d)
 ])
 
 -- what a handle names that none of these is under, and what it names that is put first
 here : (f : Given → Module) (gs : List Given) (x : Modules) (h : ℕ) (m : Module) → ((g : Given) → Member g gs → h ≢ g.handle) → module_at (with_modules f gs (finmap.insert x h (Loaded m))) h ≡ Some m
-here f gs x h m out = ap C.module_in (C.put_all f gs (finmap.insert x h (Loaded m)) h out ∙ inserted_here x h (Loaded m) h refl)
+here f gs x h m out = ap C.module_in (C.put_all f gs _ h out ∙ inserted_here x h _ h refl)
 
 others : (place : ℕ) (fs : List Found) (hs : List ℕ) (ss : List (List ℕ)) (h : ℕ) → Each (λ b. h ≢ b) hs → (g : Given) → Member g (given_from place fs hs ss) → h ≢ g.handle
-others place fs hs ss h differ g m = C.Each-at (λ b. h ≢ b) hs differ g.handle (C.given_handle place fs hs ss g m)
+others place fs hs ss h differ g m = C.Each-at (λ b. h ≢ b) hs differ _ (C.given_handle place fs hs ss g m)
 
 module _ (look : C.Lookup) (first : Given → Module) where
   -- a module bound by these look-ups
@@ -72,15 +72,15 @@ module _ (look : C.Lookup) (first : Given → Module) where
 -- what gets bytes
 pub fills_are : (module_of : Given → Module) → ((g : Given) → (module_of g).slots ≡ g.slots) → ((g : Given) → (module_of g).tables ≡ g.found.read.tables) → (modules : Modules)
     (place : ℕ) (fs : List Found) (hs : List ℕ) (ss : List (List ℕ)) → ((g : Given) → Member g (given_from place fs hs ss) → module_at modules g.handle ≡ Some (module_of g)) → length hs ≡ length fs → length ss ≡ length fs
-    → fills_with modules place hs (map (λ (f : Found). f.read) fs) ≡ flat_map (C.fills_of module_of) (given_from place fs hs ss)
+    → fills_with modules place hs (map (λ f. f.read) fs) ≡ flat_map (C.fills_of module_of) (given_from place fs hs ss)
 fills_are module_of slots tables modules place [] [] ss there many long = refl
 fills_are module_of slots tables modules place [] (h ∷ hs) ss there many long = absurd (omega arith)
 fills_are module_of slots tables modules place (f ∷ fs) [] ss there many long = absurd (omega arith)
 fills_are module_of slots tables modules place (f ∷ fs) (h ∷ hs) [] there many long = absurd (omega arith)
 fills_are module_of slots tables modules place (f ∷ fs) (h ∷ hs) (s ∷ ss) there many long =
     let g : Given = record { place = place; found = f; handle = h; slots = s } in
-    let m : Module = module_of g in
-    let reads = map (λ (x : Found). x.read) fs in
-    ap (λ (p : C.Option Module). elim p as (λ _. List C.Filling) [ None ↦ [] | Some n ↦ C.fills_from place n.slots n.tables.segments f.read.segments n.values ] ++ fills_with modules (place + 1) hs reads) (there g (inl refl))
+    let m = module_of g in
+    let reads = map (λ x. x.read) fs in
+    ap (λ p. elim p as (λ _. List C.Filling) [ None ↦ [] | Some n ↦ C.fills_from place n.slots n.tables.segments f.read.segments n.values ] ++ fills_with modules (place + 1) hs reads) (there g (inl refl))
     ∙ (λ i. C.fills_from place (slots g i) ((tables g i).segments) f.read.segments m.values ++ fills_with modules (place + 1) hs reads)
     ∙ ap (λ xs. C.fills_of module_of g ++ xs) (fills_are module_of slots tables modules (place + 1) fs hs ss (λ x n. there x (inr n)) (omega arith) (omega arith))

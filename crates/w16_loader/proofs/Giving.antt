@@ -16,8 +16,8 @@ allocated_bytes old new id n kind locks a = turn (C.discards_needed old n (Some 
 
     turn : (p : Option ℕ) → C.Request old id (record { options = revival_options; prefix = p; becomes = IsNew revival_options.zero n kind locks; order = C.with_newest id }) true new → IsSomeAnd (bytes_at new id) (λ b. length b ≡ n)
     turn None r = absurd (false≢true (sym r.0))
-    turn (Some k) r = subst (λ (p : Option Object). IsSomeAnd (elim p as (λ _. Option (List ℕ)) [ Some o ↦ o.bytes | None ↦ None ]) (λ b. length b ≡ n))
-        (sym (ap (λ (h : Heap). object_at h id) r.1.2.same ∙ C.inserted_here (C.discarded old k (Some id)).objects id r.1.0 id refl)) (many r.1.0.bytes r.1.1.new_bytes)
+    turn (Some k) r = subst (λ p. IsSomeAnd (elim p as (λ _. Option (List ℕ)) [ Some o ↦ o.bytes | None ↦ None ]) (λ b. length b ≡ n))
+        (sym (ap (λ h. object_at h id) r.1.2.same ∙ C.inserted_here (C.discarded old k (Some id)).objects id r.1.0 id refl)) (many _ r.1.1.new_bytes)
 
 module _ (old : Handles) (slot : ℕ) (absent : bytes_at old.heap slot ≡ None) where
   -- its object has none

@@ -226,7 +226,7 @@ module _ (honest : Type 0) (files : Files) (start after : ℕ) (rest : LoadingWo
 
 -- Where no module was found yet, a name that means nothing is none of a handle.
 pub unnamed : (modules : Modules) (name : List ℕ) → ◌≡◌ {A = Option closing.Referent} (option_or (option_map There (handle_named modules name)) None) None → handle_named modules name ≡ None
-unnamed modules name = turn (handle_named modules name)
+unnamed modules name = turn _
   where
     turn : (p : Option ℕ) → ◌≡◌ {A = Option closing.Referent} (option_or (option_map There p) None) None → p ≡ None
     turn None e = refl
@@ -234,5 +234,5 @@ unnamed modules name = turn (handle_named modules name)
 
 -- what is answered to both calls is answered to one
 pub for_one : (P : Bool → LoadAnswer → Type 0) (is_load_module : Bool) (result : Result LoadAnswer C.AllocError) → IfOk result (λ answer. (b : Bool) → P b answer) → IfOk result (P is_load_module)
-for_one P is_load_module (Ok answer) all = all is_load_module
+for_one P is_load_module (Ok answer) all = all _
 for_one P is_load_module (Err e) all = tt

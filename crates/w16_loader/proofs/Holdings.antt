@@ -30,7 +30,7 @@ targets_as (s ∷ ss) [] ds (ts ∷ tss) e = ap (λ more. ts ∷ more) (targets_
 targets_as (s ∷ ss) (u ∷ us) [] (ts ∷ tss) e = ap (λ more. ts ∷ more) (targets_as ss [] [] tss (omega (arith, e)))
 targets_as (s ∷ ss) (u ∷ us) (d ∷ ds) (ts ∷ tss) e = ap (λ more. ts ∷ more) (targets_as ss us ds tss (omega (arith, e)))
 
-sound_as : (ss us : List Segment) (ds : List SegmentData) (tss : List (List Target)) → list_all (λ (s : SegmentData). is_some s.targets) (data_as ss us ds tss) ≡ true
+sound_as : (ss us : List Segment) (ds : List SegmentData) (tss : List (List Target)) → list_all (λ s. is_some s.targets) (data_as ss us ds tss) ≡ true
 sound_as [] us ds tss = refl
 sound_as (s ∷ ss) us ds [] = refl
 sound_as (s ∷ ss) [] ds (ts ∷ tss) = sound_as ss [] [] tss
@@ -47,7 +47,7 @@ with_image : (s : Segment) (ts : List Target) (image : List Far → List ℕ) �
 with_image s ts image is has = record { some = is.some; small = is.small; rounded = is.rounded; image = has }
 
 one_is : (s u : Segment) (d : SegmentData) → IsSegmentData u d → IsImage s (cond (s.size == u.size) d.image (plain s))
-one_is s u d is = turn (s.size == u.size) refl
+one_is s u d is = turn _ refl
   where
     turn : (b : Bool) → (s.size == u.size) ≡ b → IsImage s (cond b d.image (plain s))
     turn true e = λ values. ((is.image values).0 ∙ sym (eqb-true s.size u.size e), (is.image values).1)
@@ -56,26 +56,26 @@ one_is s u d is = turn (s.size == u.size) refl
 is_data : (ss us : List Segment) (ds : List SegmentData) (tss : List (List Target)) → length tss ≡ length ss → AllZip IsSegmentData us ds → All IsFit ss → AllZip IsSegmentData ss (data_as ss us ds tss)
 is_data [] us ds tss e are fit = tt
 is_data (s ∷ ss) us ds [] e are fit = absurd (omega (arith, e))
-is_data (s ∷ ss) [] ds (ts ∷ tss) e are fit = (with_image s ts (plain s) (C.All-head IsFit s ss fit) (plain_is s), is_data ss [] [] tss (omega (arith, e)) tt (C.All-tail IsFit s ss fit))
+is_data (s ∷ ss) [] ds (ts ∷ tss) e are fit = (with_image s ts _ (C.All-head IsFit s ss fit) (plain_is s), is_data ss [] [] tss (omega (arith, e)) tt (C.All-tail IsFit s ss fit))
 is_data (s ∷ ss) (u ∷ us) [] (ts ∷ tss) e are fit = absurd are
 is_data (s ∷ ss) (u ∷ us) (d ∷ ds) (ts ∷ tss) e are fit =
-    (with_image s ts (cond (s.size == u.size) d.image (plain s)) (C.All-head IsFit s ss fit) (one_is s u d are.0), is_data ss us ds tss (omega (arith, e)) are.1 (C.All-tail IsFit s ss fit))
+    (with_image s ts _ (C.All-head IsFit s ss fit) (one_is s u d are.0), is_data ss us ds tss (omega (arith, e)) are.1 (C.All-tail IsFit s ss fit))
 
 -- what the file itself says
 one_same : (u : Segment) (d : SegmentData) → is_some d.targets ≡ true → one_as u u d (targets_of d) ≡ d
 one_same u d e =
-    (λ i. record { targets = Some (targets_of d); image = cond (C.eq-eqb u.size u.size refl i) d.image (plain u) }) ∙ (λ i. record d { targets = whole d.targets e i })
+    (λ i. record { targets = Some (targets_of d); image = cond (C.eq-eqb u.size u.size refl i) d.image (plain u) }) ∙ (λ i. record d { targets = whole _ e i })
   where
     whole : (p : C.Option (List Target)) → is_some p ≡ true → Some (C.unwrap_or p []) ≡ p
     whole None e = cc
     whole (Some ts) e = refl
 
-data_same : (us : List Segment) (ds : List SegmentData) → AllZip IsSegmentData us ds → list_all (λ (s : SegmentData). is_some s.targets) ds ≡ true → data_as us us ds (map targets_of ds) ≡ ds
+data_same : (us : List Segment) (ds : List SegmentData) → AllZip IsSegmentData us ds → list_all (λ s. is_some s.targets) ds ≡ true → data_as us us ds (map targets_of ds) ≡ ds
 data_same [] [] are sound = refl
 data_same [] (d ∷ ds) are sound = absurd are
 data_same (u ∷ us) [] are sound = refl
 data_same (u ∷ us) (d ∷ ds) are sound =
-    let parts = C.and_parts (is_some d.targets) (list_all (λ (s : SegmentData). is_some s.targets) ds) sound in
+    let parts = C.and_parts _ (list_all (λ s. is_some _) ds) sound in
     λ i. one_same u d parts.0 i ∷ data_same us ds are.1 parts.1 i
 
 -- A file with these tables and targets; it is what is said, where that has them.
@@ -134,7 +134,7 @@ fit_same (s ∷ ss) (d ∷ ds) are = ap (λ more. targets_of d ∷ more) (fit_sa
 
 said_is : (p : C.Option (List ℕ)) → IsSaidFile (said_by ne_format.says p)
 said_is None = tt
-said_is (Some bytes) = turn (ne_format.says bytes) (is_format.files bytes)
+said_is (Some bytes) = turn _ (is_format.files bytes)
   where
     turn : (r : Result ModuleFile ℕ) → MatchResult r IsModuleFile (λ answer. (11 ≤ answer) × (answer ≤ 14)) → IsSaidFile r
     turn (Ok read) is = is

@@ -9,7 +9,7 @@ use Rattle.w16_loader.specs.declared.found.Referent.TheVariants as refers
 use Rattle.w16_loader.specs.declared.found.Reading.TheVariants as makes
 
 there_named : (modules : C.Modules) (name : List ℕ) (handle : ℕ) → handle_named modules name ≡ Some handle → (n : Named) × (finmap.get modules handle ≡ Some n)
-there_named modules name handle e = found (find (λ (x : ℕ × Named). is_named (name_of x.1) name) (finmap.entries modules)) refl e
+there_named modules name handle e = found (find (λ x. is_named _ name) _) refl e
   where
     member : (p : ℕ × Named → Bool) (xs : List (ℕ × Named)) (x : ℕ × Named) → find p xs ≡ Some x → Member x xs
     member p [] x e = cc
@@ -19,15 +19,15 @@ there_named modules name handle e = found (find (λ (x : ℕ × Named). is_named
         turn true e rest = let same : y ≡ x = cc in inl (sym same)
         turn false e rest = inr (rest e)
 
-    found : (p : Option (ℕ × Named)) → find (λ (x : ℕ × Named). is_named (name_of x.1) name) (finmap.entries modules) ≡ p → option_map (λ (x : ℕ × Named). x.0) p ≡ Some handle → (n : Named) × (finmap.get modules handle ≡ Some n)
+    found : (p : Option (ℕ × Named)) → find (λ x. is_named (name_of x.1) name) (finmap.entries modules) ≡ p → option_map (λ x. x.0) p ≡ Some handle → (n : Named) × (finmap.get modules handle ≡ Some n)
     found None f e = cc
-    found (Some x) f e = let same : x.0 ≡ handle = cc in (x.1, ap (finmap.get modules) (sym same) ∙ C.entry_there modules x.0 x.1 (member (λ (x : ℕ × Named). is_named (name_of x.1) name) (finmap.entries modules) x f))
+    found (Some x) f e = let same : x.0 ≡ handle = cc in (x.1, ap (finmap.get modules) (sym same) ∙ C.entry_there modules x.0 x.1 (member (λ (x : ℕ × Named). is_named _ name) _ x f))
 
 position_within : {X : Type 0} (p : X → Bool) (xs : List X) (place : ℕ) → C.position p xs ≡ Some place → place < length xs
-position_within p xs place e = turn (C.nat_lt (position_or_len p xs) (length xs)) refl e
+position_within p xs place e = turn _ refl e
   where
     turn : (b : Bool) → C.nat_lt (position_or_len p xs) (length xs) ≡ b → cond b (Some (position_or_len p xs)) None ≡ Some place → place < length xs
-    turn true t e = let same : position_or_len p xs ≡ place = cc in let lt : position_or_len p xs < length xs = C.ltb-true (position_or_len p xs) (length xs) t in omega (arith, same, lt)
+    turn true t e = let same : position_or_len p xs ≡ place = cc in let lt : position_or_len p xs < length xs = C.ltb-true _ _ t in omega (arith, same, lt)
     turn false t e = cc
 
 module _ {A : Type 0} (modules : C.Modules) (found : List (Found A)) where

@@ -43,8 +43,8 @@ module _ (old new : Handles) (kind : Kind) (owned : Owned) (handle s : ℕ) (g :
 pub slot_more : (slots : List ℕ) (gs : List Segment) (i s : ℕ) (g : Segment) (a b c : LoadingWorld) → i < length slots → slice_get gs i ≡ Some g → Takes a (zip (take i slots) gs) b → IsFreeSlot b.handles s → c ≡ C.with_segment b (s, g)
     → Takes a (zip (take (i + 1) (set slots i s)) gs) c
 slot_more slots gs i s g a b c lt e taken free put =
-    subst (λ (ss : List ℕ). Takes a (zip ss gs) c) (sym (C.take_more_set slots i s lt))
-    (takes_more (take i slots) gs s g a b c (ap (slice_get gs) (length-take-le i slots (omega (arith, lt))) ∙ e) taken free put)
+    subst (λ ss. Takes a (zip ss gs) c) (sym (C.take_more_set slots i s lt))
+    (takes_more _ gs s g a b c (ap (slice_get gs) (length-take-le i slots (omega (arith, lt))) ∙ e) taken free put)
 
 each_more : (P : ℕ → Type 0) (xs : List ℕ) (y : ℕ) → Each P xs → P y → Each P (xs ++ y ∷ [])
 each_more P [] y h p = (p, tt)
@@ -53,7 +53,7 @@ each_more P (x ∷ xs) y h p = (h.0, each_more P xs y h.1 p)
 pub few_more : (slots : List ℕ) (i s : ℕ) → i < length slots → All (λ q. q < 8192) (take i slots) → s < 8192 → All (λ q. q < 8192) (take (i + 1) (set slots i s))
 few_more slots i s lt few one =
     subst (All (λ q. q < 8192)) (sym (C.take_more_set slots i s lt))
-    (C.All-from_Each (λ q. q < 8192) (take i slots ++ s ∷ []) (each_more (λ q. q < 8192) (take i slots) s (C.Each-from_All (λ q. q < 8192) (take i slots) few) one))
+    (C.All-from_Each (λ q. q < 8192) _ (each_more (λ q. q < 8192) _ s (C.Each-from_All (λ q. q < 8192) _ few) one))
 
 first_more : {X : Type 0} (xs : List X) (k : ℕ) (x : X) → slice_get xs k ≡ Some x → take (k + 1) xs ≡ take k xs ++ x ∷ []
 first_more {X} xs k x e = ap (λ n. take n xs) (C.add-one k) ∙ from xs k e
@@ -61,7 +61,7 @@ first_more {X} xs k x e = ap (λ n. take n xs) (C.add-one k) ∙ from xs k e
     from : (xs : List X) (k : ℕ) → slice_get xs k ≡ Some x → take (suc k) xs ≡ take k xs ++ x ∷ []
     from [] k e = cc
     from (y ∷ xs) zero e = let same : y ≡ x = cc in (λ i. same i ∷ [])
-    from (y ∷ xs) (suc k) e = ap (λ (r : List X). y ∷ r) (from xs k e)
+    from (y ∷ xs) (suc k) e = ap (λ r. y ∷ r) (from xs k e)
 
 -- segments that were read have sizes that fit
 pub fits : (s : ne.Segment) → C.IsSized s → IsFit (C.segment_in s)
@@ -75,20 +75,20 @@ fits s is =
     size_whole n e = omega (arith, e)
 
 pub fit_more : (gs : List Segment) (i : ℕ) (g : Segment) → slice_get gs i ≡ Some g → All IsFit (take i gs) → IsFit g → All IsFit (take (i + 1) gs)
-fit_more gs i g e all one = subst (All IsFit) (sym (first_more gs i g e)) (C.All-push IsFit (take i gs) g all one)
+fit_more gs i g e all one = subst (All IsFit) (sym (first_more gs i g e)) (C.All-push IsFit _ g all one)
 
 -- objects that were taken go again
 pub all_back : (old between new : Handles) (slots : List ℕ) (gs : List Segment) → C.AreHandles old → length slots ≤ length gs → ((world : LoadingWorld) → Takes (with_handles world old) (zip slots gs) (with_handles world between))
     → ((world : LoadingWorld) → with_handles world new ≡ C.without_objects (λ q. C.is_member q slots) (with_handles world between)) → new ≡ old
 all_back old between new slots gs is le taken gone =
-    ap (λ (w : LoadingWorld). w.handles) (gone some_world ∙ takes_back slots gs (with_handles some_world old) (with_handles some_world between) is le (taken some_world))
+    ap (λ w. w.handles) (gone some_world ∙ takes_back slots gs (with_handles some_world old) _ is le (taken some_world))
 
 -- none was left for all
 pub too_few : (old now : Handles) (slots : List ℕ) (gs : List Segment) → length slots < length gs → ((world : LoadingWorld) → Takes (with_handles world old) (zip slots gs) (with_handles world now)) → C.HasNoSlot now → length (free_slots old) < length gs
 too_few old now slots gs lt taken none =
-    let fewer : length (free_slots old) ≡ length (free_slots now) + length (zip slots gs) = fewer_slots (zip slots gs) (with_handles some_world old) (with_handles some_world now) (taken some_world) in
-    let zero : length (free_slots now) ≡ 0 = no_free_slots now none in
-    let long : length (zip slots gs) ≡ length slots = zip_long slots gs (omega (arith, lt)) in
+    let fewer = fewer_slots (zip slots gs) (with_handles some_world old) (with_handles some_world now) (taken some_world) in
+    let zero = no_free_slots now none in
+    let long = zip_long slots gs (omega (arith, lt)) in
     omega (arith, fewer, zero, long, lt)
 
 -- One module.
@@ -99,7 +99,7 @@ pub module_named : (rest : LoadingWorld) (old between new : Handles) (before aft
 module_named rest old between new before after handle m many fit taken same put = record {
   many = many;
   fit = fit;
-  taken = subst (λ (h : Handles). Takes (in_world (with_handles rest old) before) (zip m.slots m.tables.segments) (in_world (with_handles rest h) before)) (sym same) (taken (in_world rest before));
+  taken = subst (λ h. Takes (in_world (with_handles rest old) before) (zip m.slots m.tables.segments) (in_world (with_handles rest h) before)) (sym same) (taken (in_world rest before));
   named = put;
 }
 
@@ -186,9 +186,9 @@ module _ {A : Type 0} where
 pub at_turn : {X : Type 0} (xs : List X) (n place : ℕ) (x : X) → n < length (C.enumerate_from 0 xs) → ◌≡◌ {A = ℕ × X} (place, x) (get_or (C.enumerate_from 0 xs) n (place, x)) → (n < length xs) × (place ≡ n) × (slice_get xs n ≡ Some x)
 at_turn {X} xs n place x lt is =
     let less : n < length xs = omega (arith, lt, C.length-enumerate_from 0 xs) in
-    let both : ◌≡◌ {A = ℕ × X} (place, x) (0 + n, get_or xs n x) = is ∙ C.get_or-enumerate_from 0 xs n (place, x) less in
-    let first : place ≡ 0 + n = ap (λ (p : ℕ × X). p.0) both in
-    (less, omega (arith, first), C.slice_get-get_or xs n x less ∙ ap Some (sym (ap (λ (p : ℕ × X). p.1) both)))
+    let both : ◌≡◌ {A = ℕ × X} (place, x) (0 + n, get_or xs n x) = is ∙ C.get_or-enumerate_from 0 xs n _ less in
+    let first = ap (λ p. p.0) both in
+    (less, omega (arith, first), C.slice_get-get_or xs n x less ∙ ap Some (sym (ap (λ p. p.1) both)))
 
 -- The next handle is still free.
 
@@ -206,10 +206,10 @@ not_before (h ∷ hs) (suc k) q differ lt (inr m) e = not_before hs k q differ.1
 pub next_free : (old now : LoadingWorld) (module_of : Given → Module) (fs : List closing.Found) (handles : List ℕ) (k : ℕ) → k < length handles → All (IsFreeModule old.modules) handles → C.AllPairs ◌≢◌ handles → GetNames old module_of fs (take k handles) now
     → IsFreeModule now.modules (get_or handles k 0)
 next_free old now module_of fs handles k lt free apart names =
-    let was : IsFreeModule old.modules (get_or handles k 0) = C.Each-at (IsFreeModule old.modules) handles (C.Each-from_All (IsFreeModule old.modules) handles free) (get_or handles k 0) (member_at handles k lt) in (
+    let was = C.Each-at (IsFreeModule _) handles (C.Each-from_All _ handles free) (get_or handles k 0) (member_at handles k lt) in (
       was.0,
       was.1,
-      ap (λ (m : Modules). finmap.get m (get_or handles k 0)) names.named
-          ∙ C.put_all module_of (C.given_from 0 fs (take k handles) names.slots) old.modules (get_or handles k 0) (λ g m. not_before handles k g.handle (C.EachPair-from_AllPairs (λ (a b : ℕ). a ≢ b) handles apart) lt (C.given_handle 0 fs (take k handles) names.slots g m))
+      ap (λ m. finmap.get m (get_or handles k 0)) names.named
+          ∙ C.put_all module_of (C.given_from 0 fs _ _) old.modules (get_or handles k 0) (λ g m. not_before handles k g.handle (C.EachPair-from_AllPairs (λ a b. a ≢ b) handles apart) lt (C.given_handle 0 fs _ _ g m))
           ∙ was.2,
     )

@@ -13,7 +13,7 @@ same_tag : (own name : List ℕ) → is_named own name ≡ true → name_tag own
 unfolding is_named name_tag
 same_tag own name e =
     let same : str_to_ascii_uppercase own ≡ str_to_ascii_uppercase name = grind (arith, bytes_eq-Decides (str_to_ascii_uppercase own) (str_to_ascii_uppercase name)) in
-    ap (fold tag_after 0) same
+    ap (fold _ 0) same
 
 -- a name whose tag differs is another
 by_tag : (own name : List ℕ) (t u : ℕ) → t ≡ name_tag own → u ≡ name_tag name → ((t == u) && is_named own name) ≡ is_named own name

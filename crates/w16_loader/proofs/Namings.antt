@@ -20,17 +20,17 @@ given_more place [] (k ∷ hs) ss at f h s same many is = absurd (omega (arith, 
 given_more place (g ∷ fs) [] ss at f h s same many is = absurd (omega (arith, same))
 given_more place (g ∷ fs) (k ∷ hs) [] at f h s same many is = absurd many
 given_more place (g ∷ fs) (k ∷ hs) (t ∷ ss) at f h s same many is =
-    ap (λ (r : List Given). record { place = place; found = g; handle = k; slots = t } ∷ r) (given_more (place + 1) fs hs ss at f h s (omega (arith, same)) many.1 (omega (arith, is)))
+    ap (λ r. record { place = place; found = g; handle = k; slots = t } ∷ r) (given_more (place + 1) fs hs ss at f h s (omega (arith, same)) many.1 (omega (arith, is)))
 
 segments_more : (gs : List Given) (g : Given) → segments_of (gs ++ g ∷ []) ≡ segments_of gs ++ zip g.slots g.found.read.tables.segments
-segments_more [] g = C.append-nil (zip g.slots g.found.read.tables.segments)
+segments_more [] g = C.append-nil _
 segments_more (x ∷ gs) g =
-    ap (λ (r : List (ℕ × Segment)). zip x.slots x.found.read.tables.segments ++ r) (segments_more gs g)
-    ∙ sym (C.append_assoc (zip x.slots x.found.read.tables.segments) (segments_of gs) (zip g.slots g.found.read.tables.segments))
+    ap (λ r. zip x.slots x.found.read.tables.segments ++ r) (segments_more gs g)
+    ∙ sym (C.append_assoc (zip x.slots _) (segments_of gs) (zip g.slots _))
 
 modules_more : (module_of : Given → Module) (gs : List Given) (g : Given) (old : Modules) → with_modules module_of (gs ++ g ∷ []) old ≡ finmap.insert (with_modules module_of gs old) g.handle (Loaded (module_of g))
 modules_more module_of [] g old = refl
-modules_more module_of (x ∷ gs) g old = modules_more module_of gs g (finmap.insert old x.handle (Loaded (module_of x)))
+modules_more module_of (x ∷ gs) g old = modules_more _ gs g _
 
 many_more : (fs : List Found) (ss : List (List ℕ)) (f : Found) (s : List ℕ) → AreMany fs ss → length s ≡ length f.read.tables.segments → AreMany (fs ++ f ∷ []) (ss ++ s ∷ [])
 many_more [] [] f s many long = (long, tt)
@@ -68,16 +68,16 @@ module _ (imports : ℕ → List ℕ) where
 
 -- The slots of all.
 
-slots_are : (place : ℕ) (fs : List Found) (hs : List ℕ) (ss : List (List ℕ)) → length hs ≡ length fs → AreMany fs ss → map (λ (x : ℕ × Segment). x.0) (segments_of (given_from place fs hs ss)) ≡ flat_map (λ s. s) ss
+slots_are : (place : ℕ) (fs : List Found) (hs : List ℕ) (ss : List (List ℕ)) → length hs ≡ length fs → AreMany fs ss → map (λ x. x.0) (segments_of (given_from place fs hs ss)) ≡ flat_map (λ s. s) ss
 slots_are place [] hs [] same many = refl
 slots_are place [] hs (s ∷ ss) same many = absurd many
 slots_are place (f ∷ fs) [] ss same many = absurd (omega (arith, same))
 slots_are place (f ∷ fs) (h ∷ hs) [] same many = absurd many
 slots_are place (f ∷ fs) (h ∷ hs) (s ∷ ss) same many =
-    C.map-append (λ (x : ℕ × Segment). x.0) (zip s f.read.tables.segments) (segments_of (given_from (place + 1) fs hs ss))
-    ∙ (λ i. M.firsts s f.read.tables.segments (let e : length s ≡ length f.read.tables.segments = many.0 in omega (arith, e)) i ++ slots_are (place + 1) fs hs ss (omega (arith, same)) many.1 i)
+    C.map-append (λ x. x.0) _ _
+    ∙ (λ i. M.firsts s f.read.tables.segments (let e = many.0 in omega (arith, e)) i ++ slots_are (place + 1) fs hs ss (omega (arith, same)) many.1 i)
 
-pairs_first : (R : ℕ → ℕ → Type 0) (xs : List (ℕ × Segment)) → EachPair (λ x y. R x.0 y.0) xs → EachPair R (map (λ (x : ℕ × Segment). x.0) xs)
+pairs_first : (R : ℕ → ℕ → Type 0) (xs : List (ℕ × Segment)) → EachPair (λ x y. R x.0 y.0) xs → EachPair R (map (λ x. x.0) xs)
 pairs_first R [] h = tt
 pairs_first R (x ∷ xs) h = (M.each_first (R x.0) xs h.0, pairs_first R xs h.1)
 
@@ -87,11 +87,11 @@ segments_are place [] hs (s ∷ ss) same many = absurd many
 segments_are place (f ∷ fs) [] ss same many = absurd (omega (arith, same))
 segments_are place (f ∷ fs) (h ∷ hs) [] same many = absurd many
 segments_are place (f ∷ fs) (h ∷ hs) (s ∷ ss) same many =
-    let long : length s ≡ length f.read.tables.segments = many.0 in
-    let first : length (zip s f.read.tables.segments) ≡ length s = M.zip_long s f.read.tables.segments (omega (arith, long)) in
-    let rest : length (segments_of (given_from (place + 1) fs hs ss)) ≡ segments_in fs = segments_are (place + 1) fs hs ss (omega (arith, same)) many.1 in
-    let both : length (zip s f.read.tables.segments ++ segments_of (given_from (place + 1) fs hs ss)) ≡ length (zip s f.read.tables.segments) + length (segments_of (given_from (place + 1) fs hs ss)) = length-append (zip s f.read.tables.segments) (segments_of (given_from (place + 1) fs hs ss)) in
-    let all : segments_in (f ∷ fs) ≡ length f.read.tables.segments + segments_in fs = sum_by-cons (λ (g : Found). length g.read.tables.segments) f fs in
+    let long = many.0 in
+    let first = M.zip_long s f.read.tables.segments (omega (arith, long)) in
+    let rest = segments_are (place + 1) fs hs ss (omega (arith, same)) many.1 in
+    let both = length-append (zip s f.read.tables.segments) (segments_of (given_from _ fs hs ss)) in
+    let all = sum_by-cons (λ g. length g.read.tables.segments) f fs in
     both ∙ omega (arith, long, first, rest) ∙ sym all
 
 -- the segments of the modules before a place, and of the one there, are no more than all
@@ -99,13 +99,13 @@ pub segments_before : (fs : List Found) (k : ℕ) (f : Found) → C.slice_get fs
 segments_before [] k f e = cc
 segments_before (g ∷ fs) zero f e =
     let same : g ≡ f = cc in
-    let many : length g.read.tables.segments ≡ length f.read.tables.segments = ap (λ (x : Found). length x.read.tables.segments) same in
-    let all : segments_in (g ∷ fs) ≡ length g.read.tables.segments + segments_in fs = sum_by-cons (λ (x : Found). length x.read.tables.segments) g fs in
+    let many = ap (λ x. length x.read.tables.segments) same in
+    let all = sum_by-cons (λ x. length x.read.tables.segments) g fs in
     omega (arith, many, all)
 segments_before (g ∷ fs) (suc k) f e =
-    let rest : segments_in (take k fs) + length f.read.tables.segments ≤ segments_in fs = segments_before fs k f e in
-    let all : segments_in (g ∷ fs) ≡ length g.read.tables.segments + segments_in fs = sum_by-cons (λ (x : Found). length x.read.tables.segments) g fs in
-    let some : segments_in (g ∷ take k fs) ≡ length g.read.tables.segments + segments_in (take k fs) = sum_by-cons (λ (x : Found). length x.read.tables.segments) g (take k fs) in
+    let rest = segments_before fs k f e in
+    let all = sum_by-cons (λ x. length x.read.tables.segments) g fs in
+    let some = sum_by-cons (λ x. length x.read.tables.segments) g (take k fs) in
     omega (arith, rest, all, some)
 
 -- Modules that have names.
@@ -149,18 +149,18 @@ modules_same : (f g : Given → Module) (xs : List Given) (old : Modules) → ((
 modules_same f g [] old same = refl
 modules_same f g (x ∷ xs) old same =
     ap (λ m. with_modules f xs (finmap.insert old x.handle (Loaded m))) (same x (inl refl))
-    ∙ modules_same f g xs (finmap.insert old x.handle (Loaded (g x))) (λ y m. same y (inr m))
+    ∙ modules_same f g xs _ (λ y m. same y (inr m))
 
 -- So a closure's modules have names, and none is bound yet.
 pub unbound_named : (old now : LoadingWorld) (closure : C.Closure) (hs : List ℕ) (imports : ℕ → List ℕ) → length hs ≡ length closure.found → All (C.IsFreeModule old.modules) hs → C.AllPairs ◌≢◌ hs
     → ((place : ℕ) → place < length closure.found → imports place ≡ C.imports_among hs closure.bound place) → GetNames old (unbound_by imports) closure.found hs now → C.IsUnbound old closure hs now
 unbound_named old now closure hs imports same free apart means names = record {
   choice = chosen;
-  is_choice = is_choice old (unbound_by imports) closure.found hs now same names free apart;
+  is_choice = is_choice old _ _ hs now same names free apart;
   handles = refl;
   fit = names.fit;
-  after = all_named old (unbound_by imports) closure.found hs now same names
-      ∙ ap (λ (m : Modules). record (fold with_segment old (segments_of gs)) { modules = m }) (modules_same (unbound_by imports) (unbound closure chosen) gs old.modules alike);
+  after = all_named old _ _ hs now same names
+      ∙ ap (λ m. record (fold with_segment old (segments_of gs)) { modules = m }) (modules_same _ _ gs _ alike);
 }
   where
     chosen : C.Choice
@@ -171,7 +171,7 @@ unbound_named old now closure hs imports same free apart means names = record {
 
     alike : (g : Given) → C.Member g gs → unbound_by imports g ≡ unbound closure chosen g
     alike g m =
-        let r : (i : ℕ) × (g.place ≡ 0 + i) × (i < length closure.found) × (C.slice_get hs i ≡ Some g.handle) = C.given_index 0 closure.found hs names.slots g m in
-        let e : g.place ≡ 0 + r.0 = r.1 in
-        let lt : r.0 < length closure.found = r.2 in
+        let r = C.given_index 0 _ hs _ g m in
+        let e = r.1 in
+        let lt = r.2 in
         (λ i. record (unbound closure chosen g) { imports = means g.place (omega (arith, e, lt)) i })

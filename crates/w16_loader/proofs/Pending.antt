@@ -14,10 +14,10 @@ past xs ys n e = drop-append-le n xs ys (omega (arith, e)) ∙ ap (λ zs. zs ++ 
 
 -- one more module
 from_more : (place : ℕ) (fs : List Found) (f : Found) → references_from place (fs ++ f ∷ []) ≡ references_from place fs ++ references_of (place + length fs) f
-from_more place [] f = C.append-nil (references_of place f) ∙ ap (λ n. references_of n f) (let same : place ≡ place + 0 = omega arith in same)
+from_more place [] f = C.append-nil _ ∙ ap (λ n. references_of n f) (let same : place ≡ place + 0 = omega arith in same)
 from_more place (g ∷ fs) f =
-    ap (λ xs. references_of place g ++ xs) (from_more (suc place) fs f)
-    ∙ sym (C.append_assoc (references_of place g) (references_from (suc place) fs) (references_of (suc place + length fs) f))
+    ap (λ xs. references_of place g ++ xs) (from_more _ fs f)
+    ∙ sym (C.append_assoc (references_of place g) (references_from _ fs) (references_of _ f))
     ∙ ap (λ n. references_of place g ++ references_from (suc place) fs ++ references_of n f) (let same : suc place + length fs ≡ place + suc (length fs) = omega arith in same)
 
 module _ (fs : List Found) (place : ℕ) (f : Found) (at : slice_get fs place ≡ Some f) where
@@ -59,4 +59,4 @@ none_left fs place done le = ap (λ xs. drop done (references_from place xs)) (d
 
 -- of one module all are
 pub first_left : (f : Found) → left_from 0 0 (f ∷ []) ≡ references_of 0 f
-first_left f = C.append-nil (references_of 0 f)
+first_left f = C.append-nil _

@@ -22,9 +22,9 @@ has_tables (Err number) t h = absurd h
 pub told_of : (p : Option (List ℕ)) (t : ne.Tables) → HasTables (said_by ne_format.says p) (Ok (tables_in t)) → Told p t
 told_of None t h = absurd h
 told_of (Some bytes) t h =
-    let r = has_tables (ne_format.says bytes) (tables_in t) h in
+    let r = has_tables _ _ h in
     let back = (C.read_back bytes r.0 r.1).1 in
-    let same : back.0 ≡ t = C.tables_apart back.0 t (ap (λ (x : ModuleFile). x.tables) (sym back.2) ∙ r.2) in
+    let same = C.tables_apart back.0 t (ap (λ x. x.tables) (sym back.2) ∙ r.2) in
     record { bytes = bytes; there = refl; tables = back.1 ∙ ap Ok same; says = r.1 ∙ ap Ok (back.2 ∙ ap (module_file bytes) same) }
 
 pub read_told : (p : Option (List ℕ)) (t : ne.Tables) → C.IsRead p t → HasTables (said_by ne_format.says p) (Ok (tables_in t))

@@ -18,8 +18,8 @@ member_append q [] ys = refl
 member_append q (x ∷ xs) ys = ap (λ b. (x == q) || b) (member_append q xs ys) ∙ or_assoc (x == q) (is_member q xs) (is_member q ys)
 
 retained_twice : {X : Type 0} (m : C.FinMap C.nat_cmp X) (a b : ℕ → Bool) → finmap.retain_keys (finmap.retain_keys m (λ q. not (a q))) (λ q. not (b q)) ≡ finmap.retain_keys m (λ q. not (a q || b q))
-retained_twice {X} m a b = C.same_values (finmap.retain_keys (finmap.retain_keys m (λ q. not (a q))) (λ q. not (b q))) (finmap.retain_keys m (λ q. not (a q || b q))) (λ q.
-    retained (finmap.retain_keys m (λ q. not (a q))) b q ∙ ap (λ p. cond {A = Option X} (not (b q)) p None) (retained m a q) ∙ both (a q) (b q) (finmap.get m q) ∙ sym (retained m (λ q. a q || b q) q))
+retained_twice {X} m a b = C.same_values (finmap.retain_keys (finmap.retain_keys m (λ q. not (a q))) (λ q. not (b q))) (finmap.retain_keys m (λ q. not _)) (λ q.
+    retained (finmap.retain_keys m (λ q. not (a q))) b q ∙ ap (λ p. cond {A = Option X} (not (b q)) p None) (retained m a q) ∙ both (a q) (b q) _ ∙ sym (retained m (λ q. a q || b q) q))
   where
     both : (x y : Bool) (p : Option X) → cond {A = Option X} (not y) (cond {A = Option X} (not x) p None) None ≡ cond {A = Option X} (not (x || y)) p None
     both true true p = refl
@@ -43,7 +43,7 @@ filtered_twice a b (x ∷ xs) = step (a x) (b x) refl (filtered_twice a b xs)
     step : (s t : Bool) → b x ≡ t → second first ≡ both → second (cond {A = List ℕ} (not s) (x ∷ first) first) ≡ cond {A = List ℕ} (not (s || t)) (x ∷ both) both
     step true t e rest = rest
     step false true e rest = ap (λ v. cond {A = List ℕ} (not v) (x ∷ second first) (second first)) e ∙ rest
-    step false false e rest = ap (λ v. cond {A = List ℕ} (not v) (x ∷ second first) (second first)) e ∙ ap (λ (r : List ℕ). x ∷ r) rest
+    step false false e rest = ap (λ v. cond {A = List ℕ} (not v) (x ∷ second first) (second first)) e ∙ ap (λ r. x ∷ r) rest
 
 -- Modules that go one after another.
 
@@ -100,36 +100,36 @@ handles_given place [] [] ss same many = refl
 handles_given place [] (h ∷ hs) ss same many = absurd (omega (arith, same))
 handles_given place (f ∷ fs) [] ss same many = absurd (omega (arith, same))
 handles_given place (f ∷ fs) (h ∷ hs) [] same many = absurd many
-handles_given place (f ∷ fs) (h ∷ hs) (s ∷ ss) same many = ap (λ (r : List ℕ). h ∷ r) (handles_given (place + 1) fs hs ss (omega (arith, same)) many.1)
+handles_given place (f ∷ fs) (h ∷ hs) (s ∷ ss) same many = ap (λ r. h ∷ r) (handles_given (place + 1) fs hs ss (omega (arith, same)) many.1)
 
 pub slots_given : (place : ℕ) (fs : List Found) (hs : List ℕ) (ss : List (List ℕ)) → length hs ≡ length fs → AreMany fs ss → slots_of (given_from place fs hs ss) ≡ C.flat_map (λ s. s) ss
 slots_given place [] hs [] same many = refl
 slots_given place [] hs (s ∷ ss) same many = absurd many
 slots_given place (f ∷ fs) [] ss same many = absurd (omega (arith, same))
 slots_given place (f ∷ fs) (h ∷ hs) [] same many = absurd many
-slots_given place (f ∷ fs) (h ∷ hs) (s ∷ ss) same many = ap (λ (r : List ℕ). s ++ r) (slots_given (place + 1) fs hs ss (omega (arith, same)) many.1)
+slots_given place (f ∷ fs) (h ∷ hs) (s ∷ ss) same many = ap (λ r. s ++ r) (slots_given (place + 1) fs hs ss (omega (arith, same)) many.1)
 
-given_apart : (place : ℕ) (fs : List Found) (hs : List ℕ) (ss : List (List ℕ)) → EachPair (λ a b. a ≢ b) hs → EachPair (λ (g h : Given). g.handle ≢ h.handle) (given_from place fs hs ss)
+given_apart : (place : ℕ) (fs : List Found) (hs : List ℕ) (ss : List (List ℕ)) → EachPair (λ a b. a ≢ b) hs → EachPair (λ g h. g.handle ≢ h.handle) (given_from place fs hs ss)
 given_apart place [] hs ss differ = tt
 given_apart place (f ∷ fs) [] ss differ = tt
 given_apart place (f ∷ fs) (h ∷ hs) [] differ = tt
 given_apart place (f ∷ fs) (h ∷ hs) (s ∷ ss) differ =
-    (Each-from (λ (g : Given). h ≢ g.handle) (given_from (place + 1) fs hs ss) (λ g m. Each-at (λ b. h ≢ b) hs differ.0 g.handle (C.given_handle (place + 1) fs hs ss g m)), given_apart (place + 1) fs hs ss differ.1)
+    (Each-from (λ g. h ≢ g.handle) (given_from _ fs hs ss) (λ g m. Each-at (λ b. h ≢ b) hs differ.0 g.handle (C.given_handle _ fs hs ss g m)), given_apart (place + 1) fs hs ss differ.1)
 
 -- Modules that are put under free handles, and taken away again.
 
 stays_gone : (hs : List ℕ) (m : Modules) (q : ℕ) → finmap.get m q ≡ None → finmap.get (fold finmap.remove m hs) q ≡ None
 stays_gone [] m q none = none
-stays_gone (h ∷ hs) m q none = stays_gone hs (finmap.remove m h) q (elim (C.cases_eq q h) [ inl e ↦ C.taken_here m h q e | inr d ↦ taken_other m h q d ∙ none ])
+stays_gone (h ∷ hs) m q none = stays_gone hs _ q (elim (C.cases_eq q h) [ inl e ↦ C.taken_here m h q e | inr d ↦ taken_other m h q d ∙ none ])
 
 gone_in : (hs : List ℕ) (m : Modules) (q : ℕ) → Member q hs → finmap.get (fold finmap.remove m hs) q ≡ None
 gone_in [] m q inside = absurd inside
-gone_in (h ∷ hs) m q (inl e) = stays_gone hs (finmap.remove m h) q (C.taken_here m h q e)
-gone_in (h ∷ hs) m q (inr inside) = gone_in hs (finmap.remove m h) q inside
+gone_in (h ∷ hs) m q (inl e) = stays_gone hs _ q (C.taken_here m h q e)
+gone_in (h ∷ hs) m q (inr inside) = gone_in hs _ q inside
 
 gone_out : (hs : List ℕ) (m : Modules) (q : ℕ) → ((h : ℕ) → Member h hs → q ≢ h) → finmap.get (fold finmap.remove m hs) q ≡ finmap.get m q
 gone_out [] m q out = refl
-gone_out (h ∷ hs) m q out = gone_out hs (finmap.remove m h) q (λ k inside. out k (inr inside)) ∙ taken_other m h q (out h (inl refl))
+gone_out (h ∷ hs) m q out = gone_out hs _ q (λ k inside. out k (inr inside)) ∙ taken_other m h q (out h (inl refl))
 
 module _ (module_of : Given → Module) (fs : List Found) (hs : List ℕ) (ss : List (List ℕ)) (old : Modules) (free : (q : ℕ) → Member q hs → finmap.get old q ≡ None) where
   names_back : fold finmap.remove (with_modules module_of (given_from 0 fs hs ss) old) hs ≡ old
@@ -192,5 +192,5 @@ module _ (old : LoadingWorld) (closure : C.Closure) (choice : C.Choice) (module_
 -- One goes before those that are left.
 pub next_module : (now next : LoadingWorld) (handles : List ℕ) (i : ℕ) → i < length handles → next ≡ without_module now (C.get_or handles i 0) → fold without_module next (drop (i + 1) handles) ≡ fold without_module now (drop i handles)
 next_module now next handles i lt gone =
-    ap (λ (w : LoadingWorld). fold without_module w (drop (i + 1) handles)) gone
-    ∙ ap (fold without_module now) (ap (λ k. C.get_or handles i 0 ∷ drop k handles) (C.add-one i) ∙ sym (C.drop-cons handles i 0 lt))
+    ap (λ w. fold without_module w (drop (i + 1) handles)) gone
+    ∙ ap (fold _ now) (ap (λ k. C.get_or handles i 0 ∷ drop k handles) (C.add-one i) ∙ sym (C.drop-cons handles i 0 lt))

@@ -86,7 +86,7 @@ other_slot m number slots are slot at kind handle named q out e = out (ap (λ qs
 
 -- as many as its file has
 pub many_segments : (t : ne_modules.Tables) (m : Module) → tables_in t ≡ m.tables → length m.tables.segments ≡ length t.segments
-many_segments t m told = ap (λ (u : loading.Tables). length u.segments) (sym told) ∙ C.length-map t.segments segment_in
+many_segments t m told = ap (λ u. length u.segments) (sym told) ∙ C.length-map _ segment_in
 
 module _ (m : Module) (read : ModuleFile) (number : ℕ) (part : Part m read (number - 1)) where
   -- its image has the size of its object

@@ -23,8 +23,8 @@ module _ (rest : LoadingWorld) (old new : Modules) (handle : ℕ) (none : None �
   none_less = rw (same, sym none, used_less) refl
 
 pub use_imports : (room : Bool) (lent other : Module) → (IsTrue room → other ≡ record lent { uses = lent.uses + 1 }) → (IsFalse room → other ≡ lent) → other.imports ≡ lent.imports
-use_imports true lent other more full = ap (λ (x : Module). x.imports) (more refl)
-use_imports false lent other more full = ap (λ (x : Module). x.imports) (full refl)
+use_imports true lent other more full = ap (λ x. x.imports) (more refl)
+use_imports false lent other more full = ap (λ x. x.imports) (full refl)
 
 -- A module that was taken out, lent to be changed, and put back as another.
 module _ (rest : LoadingWorld) (old between new : Modules) (handle : ℕ) (m lent other : Module) (there : Some m ≡ module_at old handle) (gone : between ≡ finmap.remove old handle) (put : new ≡ finmap.insert between handle (Loaded other)) (same : lent ≡ m) where

@@ -47,8 +47,8 @@ target_alike f g (points.ByOrdinal reference ordinal) h = refl
 target_alike f g (points.ByName reference name) h = ap (loading.Target.ImportName reference) h
 
 record_alike : (f g : ℕ → List ℕ) (r : C.Record) → IfSome (name_in r) (λ name. f name ≡ g name) → record_target f r ≡ record_target g r
-record_alike f g (Stored fixup) h = target_alike f g fixup.target h
-record_alike f g (Added fixup) h = target_alike f g fixup.target h
+record_alike f g (Stored fixup) h = target_alike f g _ h
+record_alike f g (Added fixup) h = target_alike f g _ h
 record_alike f g System h = refl
 
 pub targets_alike : (f g : ℕ → List ℕ) (records : List C.Record) → All (λ r. IfSome (name_in r) (λ name. f name ≡ g name)) records → map (record_target f) records ≡ map (record_target g) records
@@ -77,8 +77,8 @@ front_more f xs place x at = ap (λ n. take n (map f xs)) (C.add-one place) ∙ 
 
 one_of_all : {X : Type 0} (p : X → Bool) (xs : List X) (k : ℕ) (x : X) → list_all p xs ≡ true → slice_get xs k ≡ Some x → p x ≡ true
 one_of_all p [] k x all at = cc
-one_of_all p (y ∷ ys) zero x all at = let same : y ≡ x = cc in ap p (sym same) ∙ (C.and_parts (p y) (list_all p ys) all).0
-one_of_all p (y ∷ ys) (suc k) x all at = one_of_all p ys k x (C.and_parts (p y) (list_all p ys) all).1 at
+one_of_all p (y ∷ ys) zero x all at = let same : y ≡ x = cc in ap p (sym same) ∙ (C.and_parts (p y) _ all).0
+one_of_all p (y ∷ ys) (suc k) x all at = one_of_all p ys k x (C.and_parts (p y) _ all).1 at
 
 ok_is : (r : C.Result Held RelocFault) → is_ok r ≡ true → (held : Held) × (r ≡ Ok held)
 ok_is (Ok held) e = (held, refl)
@@ -123,14 +123,14 @@ module _ (files : Files) (m : Module) (read : ModuleFile) (is : IsSaid files m r
 many_said : (files : Files) (m : Module) (read : ModuleFile) → IsSaid files m read → length read.segments ≡ length m.tables.segments
 many_said files m read is =
     let back = (C.read_back is.file read is.accepted).1 in
-    let tables : read.tables ≡ tables_in back.0 = ap (λ (r : ModuleFile). r.tables) back.2 in
-    ap (λ (r : ModuleFile). length r.segments) back.2 ∙ length-map back.0.segments (data_in is.file back.0)
-    ∙ sym (length-map back.0.segments C.segment_in) ∙ ap (λ (u : loading.Tables). length u.segments) (sym tables ∙ is.tables)
+    let tables = ap (λ r. r.tables) back.2 in
+    ap (λ r. length r.segments) back.2 ∙ length-map back.0.segments (data_in is.file back.0)
+    ∙ sym (length-map _ _) ∙ ap (λ u. length u.segments) (sym tables ∙ is.tables)
 
 -- and as the tables that it keeps
 pub count_said : (files : Files) (m : Module) (read : ModuleFile) → IsSaid files m read → (t : Tables) → tables_in t ≡ m.tables → (count : ℕ) → count ≡ length t.segments → count ≡ length read.segments
 count_said files m read is t kept count counted =
-    counted ∙ sym (length-map t.segments C.segment_in) ∙ ap (λ (u : loading.Tables). length u.segments) kept ∙ sym (many_said files m read is)
+    counted ∙ sym (length-map _ _) ∙ ap (λ u. length u.segments) kept ∙ sym (many_said files m read is)
 
 -- what is at a place has the number after it
 pub numbered_there : {X : Type 0} (xs : List X) (place : ℕ) → place < length xs → (x : X) × (slice_get xs place ≡ Some x) × (slice_get xs (place + 1 - 1) ≡ Some x)

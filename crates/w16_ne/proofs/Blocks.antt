@@ -69,5 +69,5 @@ block_ends (Some file) len at b h r =
     let whole : length file ≡ len = cc in
     let inside : end ≤ length file = grind (arith, nat_tests, third.0) in
     let is : record { kind = word_of head 0; count = word_of head 2; at = at + 8 } ≡ b = cc (third.1) in
-    let ends = ap (λ (x : Block). end_of x) is in
+    let ends = ap (λ x. end_of x) is in
     omega (arith, ends, inside, whole)

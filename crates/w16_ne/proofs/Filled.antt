@@ -20,4 +20,4 @@ count_filled ((k, r ∷ rs) ∷ ts) = ap resource_count (stays k r rs ts) ∙ su
 pub placed_filled : (file : Option (List ℕ)) (unit : ℕ) (ts : List Typed) → are_all_placed file unit (filled ts) ≡ are_all_placed file unit ts
 placed_filled file unit [] = refl
 placed_filled file unit ((k, []) ∷ ts) = ap (are_all_placed file unit) (left_out k ts) ∙ placed_filled file unit ts
-placed_filled file unit ((k, r ∷ rs) ∷ ts) = ap (are_all_placed file unit) (stays k r rs ts) ∙ ap (λ (rest : Reading (Unit {0})). are_placed file unit (r ∷ rs) >>= λ _. rest) (placed_filled file unit ts)
+placed_filled file unit ((k, r ∷ rs) ∷ ts) = ap (are_all_placed file unit) (stays k r rs ts) ∙ ap (λ rest. are_placed file unit (r ∷ rs) >>= λ _. rest) (placed_filled file unit ts)

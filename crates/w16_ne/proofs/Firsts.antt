@@ -79,7 +79,7 @@ behind groups rows k start n d lt le e count =
     let g = get_or groups k d in
     let rest = drop (k + 1) groups in
     let cons : drop k groups ≡ g ∷ rest = rw add-one (drop-cons groups k d lt) in
-    let sum : total (drop k groups) ≡ g.count + total rest = ap total cons ∙ total_is g rest in
+    let sum = ap total cons ∙ total_is g rest in
     let old = length-drop start rows in
     let new = length-drop (start + n) rows in
     (omega arith, omega arith)

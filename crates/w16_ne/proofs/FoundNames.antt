@@ -6,7 +6,7 @@ use Rattle.std.specs.{Map.lookup, Option.option_or, Prelude.Vec}
 use Rattle.indexmap.proofs.CallerLemmas.{insert_entry-new}
 use Rattle.indexmap.specs.IndexMap.{IndexMap, get_by, insert_entry}
 
-told_first : (b : Bool) (e : Entry) (o : Option Entry) → option_map (λ (x : Entry). x.1) (cond b (Some e) o) ≡ cond b (Some e.1) (option_map (λ (x : Entry). x.1) o)
+told_first : (b : Bool) (e : Entry) (o : Option Entry) → option_map (λ x. x.1) (cond b (Some e) o) ≡ cond b (Some e.1) (option_map (λ x. x.1) o)
 told_first true e o = refl
 told_first false e o = refl
 
@@ -28,7 +28,7 @@ more_by false n p q h = h
 told_more : (p : Entry → Bool) (names : List Entry) (e : Entry) → told p (names ++ e ∷ []) ≡ option_or (told p names) (cond (p e) (Some e.1) None)
 told_more p [] e = told_first (p e) e None
 told_more p (x ∷ xs) e =
-    told_first (p x) x (find p (xs ++ e ∷ [])) ∙ more_by (p x) x.1 _ _ (told_more p xs e) ∙ ap (λ (o : Option ℕ). option_or o (cond (p e) (Some e.1) None)) (sym (told_first (p x) x (find p xs)))
+    told_first (p x) x (find p (xs ++ e ∷ [])) ∙ more_by (p x) x.1 _ _ (told_more p xs e) ∙ ap (λ o. option_or o (cond (p e) (Some e.1) None)) (sym (told_first (p x) x (find p xs)))
 
 lookup_more : {K : Type 0} (p : K → Bool) (es : List (K × ℕ)) (e : K × ℕ) → lookup p (es ++ e ∷ []) ≡ option_or (lookup p es) (cond (p e.0) (Some e.1) None)
 lookup_more p [] e = refl
@@ -79,9 +79,9 @@ longer_by true e name o h less none =
     absurd (omega (arith, same, one, two, less))
 longer_by false e name o h less none = none
 
-find_longer : (es : List Entry) (name : List ℕ) → 255 < length name → C.AllByRecursion (λ (e : Entry). length e.0 ≤ 255) es → find (λ (e : Entry). is_named e.0 name) es ≡ None
+find_longer : (es : List Entry) (name : List ℕ) → 255 < length name → C.AllByRecursion (λ e. length e.0 ≤ 255) es → find (λ e. is_named e.0 name) es ≡ None
 find_longer [] name long short = refl
 find_longer (e ∷ es) name long short = longer_by (is_named e.0 name) e name _ refl (omega (arith, short.0, long)) (find_longer es name long short.1)
 
-pub none_longer : (names : List Entry) (name : List ℕ) → 255 < length name → C.AllByRecursion (λ (e : Entry). length e.0 ≤ 255) names → ordinal_in names name ≡ 0
-none_longer names name long all = ap (λ (o : Option Entry). C.unwrap_or (option_map (λ (e : Entry). e.1) o) 0) (find_longer names name long all)
+pub none_longer : (names : List Entry) (name : List ℕ) → 255 < length name → C.AllByRecursion (λ e. length e.0 ≤ 255) names → ordinal_in names name ≡ 0
+none_longer names name long all = ap (λ o. C.unwrap_or (option_map (λ e. e.1) o) 0) (find_longer names name long all)

@@ -24,18 +24,18 @@ unfolding name_at
 is_read file at e is =
     let n = length e.0 in
     let first : ltb (length file) (at + 1) ≡ false = grind (arith, nat_tests, is.inside) in
-    let count : slice_index (take 1 (drop at file)) 0 ≡ n = byte_here file at ∙ is.len in
+    let count = byte_here file at ∙ is.len in
     let more : eqb n 0 ≡ false = grind (arith, nat_tests, is.some) in
     let second : ltb (length file) (at + 1 + (n + 2)) ≡ false = grind (arith, nat_tests, is.inside) in
-    let text : take n (take (n + 2) (drop (at + 1) file)) ≡ e.0 = take-take n (n + 2) (drop (at + 1) file) (omega arith) ∙ is.text in
-    let ordinal : word_of (take (n + 2) (drop (at + 1) file)) n ≡ e.1 = cut_word file (at + 1) (n + 2) n (omega arith) ∙ is.ordinal in
+    let text = take-take n (n + 2) (drop (at + 1) file) (omega arith) ∙ is.text in
+    let ordinal = cut_word file (at + 1) (n + 2) n (omega arith) ∙ is.ordinal in
     rw (first, count, more, second, text, ordinal) refl
 
 pub end_is_read : (file : List ℕ) (at : ℕ) → at < length file → slice_index file at ≡ 0 → name_at (Some file) at ≡ Ok None
 unfolding name_at
 end_is_read file at lt h =
     let first : ltb (length file) (at + 1) ≡ false = grind (arith, nat_tests) in
-    let count : slice_index (take 1 (drop at file)) 0 ≡ 0 = byte_here file at ∙ h in
+    let count = byte_here file at ∙ h in
     rw (first, count) refl
 
 pub goes_on_past : {A : Type 0} (b : Bool) (read : Reading (Option A)) (x : A) → cond b (Ok None) read ≡ Ok (Some x) → b ≡ false
@@ -48,20 +48,20 @@ name_is file at e r =
     let first = reads_ok (ltb (length file) (at + 1)) faults.Truncated (take 1 (drop at file)) _ (Some e) r in
     let count = get_or (take 1 (drop at file)) 0 0 in
     let text = goes_past (eqb count 0) _ e first.1 in
-    let more : eqb count 0 ≡ false = goes_on_past (eqb count 0) _ e first.1 in
+    let more = goes_on_past (eqb count 0) _ e first.1 in
     let cut = take (count + 2) (drop (at + 1) file) in
     let rest = reads_ok (ltb (length file) (at + 1 + (count + 2))) faults.Truncated cut _ (Some e) text in
     let is : (take count cut, word_of cut count) ≡ e = cc (rest.1) in
     let inside : at + 1 + (count + 2) ≤ length file = grind (arith, nat_tests, rest.0) in
     let less = take-take count (count + 2) (drop (at + 1) file) (omega arith) in
-    let text_is : take count (drop (at + 1) file) ≡ e.0 = sym less ∙ ap (λ (x : Entry). x.0) is in
+    let text_is = sym less ∙ ap (λ x. x.0) is in
     let long : length e.0 ≡ count = omega (arith, ap length text_is, length-take count (drop (at + 1) file), length-drop (at + 1) file, inside) in
     record {
       inside = omega (arith, long, inside);
       some = rw long (grind (arith, nat_tests, more));
       len = sym (byte_here file at) ∙ sym long;
       text = rw long text_is;
-      ordinal = rw long (sym (cut_word file (at + 1) (count + 2) count (omega arith)) ∙ ap (λ (x : Entry). x.1) is);
+      ordinal = rw long (sym (cut_word file (at + 1) (count + 2) count (omega arith)) ∙ ap (λ x. x.1) is);
     }
 
 never_none : {A : Type 0} (b : Bool) (x : A) (f : A → Entry) → (cond b (Err faults.Truncated) (Ok x) >>= λ y. Ok (Some (f y))) ≡ Ok None → ⊥

@@ -64,7 +64,7 @@ front_is most (Some file) len at count h lt e =
     let whole : length file ≡ len = cc in
     let less : count ≤ len - at = grind arith in
     let inside : ltb (length file) (at + count) ≡ false = grind (arith, C.nat_tests) in
-    let long : length (drop at file) ≡ len - at = C.length-drop at file ∙ ap (λ n. n - at) whole in
+    let long = C.length-drop at file ∙ ap (λ n. n - at) whole in
     let count_is : count ≡ min most (length (drop at file)) = grind arith in
     rw (inside, count_is) (ap (λ xs. Ok xs) (C.take_min most (drop at file)))
 
@@ -112,23 +112,23 @@ name_same file pat i at place le small =
     bind_same (bytes_or faults.Truncated (Some p) i 1) _
     (λ len. cond (eqb (slice_index len 0) 0) (Ok None) (bytes_or faults.Truncated (Some file) (at + 1) (slice_index len 0 + 2) >>= λ rest. Ok (Some (take (slice_index len 0) rest, word_of rest (slice_index len 0)))))
     (λ len is.
-    (let cut : take 1 (drop i p) ≡ len = cut_is (ltb (length p) (i + 1)) (take 1 (drop i p)) len is in
-    let count : slice_index len 0 ≡ slice_index p i = sym (ap (λ xs. slice_index xs 0) cut) ∙ byte_here p i in
+    (let cut = cut_is (ltb (length p) (i + 1)) (take 1 (drop i p)) len is in
+    let count = sym (ap (λ xs. slice_index xs 0) cut) ∙ byte_here p i in
     let same : bytes_or faults.Truncated (Some p) (i + 1) (slice_index len 0 + 2) ≡ bytes_or faults.Truncated (Some file) (at + 1) (slice_index len 0 + 2) =
     bytes_same 1024 file pat faults.Truncated (i + 1) (slice_index len 0 + 2) (omega arith) (omega (arith, count, small, le)) ∙ ap (λ a. bytes_or faults.Truncated (Some file) a (slice_index len 0 + 2)) next in
-    cond_same (eqb (slice_index len 0) 0) (Ok None) _ _ (ap (λ (r : Reading (List ℕ)). r >>= λ rest. Ok (Some (take (slice_index len 0) rest, word_of rest (slice_index len 0)))) same)))
-    ∙ ap (λ (r : Reading (List ℕ)). r >>= λ len. cond (eqb (slice_index len 0) 0) (Ok None) (bytes_or faults.Truncated (Some file) (at + 1) (slice_index len 0 + 2) >>= λ rest. Ok (Some (take (slice_index len 0) rest, word_of rest (slice_index len 0)))))
+    cond_same (eqb (slice_index len 0) 0) (Ok None) _ _ (ap (λ r. r >>= λ rest. Ok (Some (take (slice_index len 0) rest, word_of rest (slice_index len 0)))) same)))
+    ∙ ap (λ r. r >>= λ len. cond (eqb (slice_index len 0) 0) (Ok None) (bytes_or faults.Truncated (Some file) (at + 1) (slice_index len 0 + 2) >>= λ rest. Ok (Some (take (slice_index len 0) rest, word_of rest (slice_index len 0)))))
     (bytes_same 1024 file pat faults.Truncated i 1 (omega arith) (omega (arith, le)) ∙ ap (λ a. bytes_or faults.Truncated (Some file) a 1) place)
 
 pub name_in_piece : (file : Option (List ℕ)) (bytes : List ℕ) (pat i at : ℕ) → C.piece_at file pat ≡ Ok bytes → pat + i ≡ at → i + 258 ≤ 1024 → slice_index bytes i < 256 → name_at (Some bytes) i ≡ name_at file at
 name_in_piece None bytes pat i at is place le small = cc
 name_in_piece (Some file) bytes pat i at is place le small =
     let same : front 1024 file pat ≡ bytes = cc in
-    ap (λ (b : List ℕ). name_at (Some b) i) (sym same) ∙ name_same file pat i at place le (subst (λ b. slice_index b i < 256) (sym same) small)
+    ap (λ b. name_at (Some b) i) (sym same) ∙ name_same file pat i at place le (subst (λ b. slice_index b i < 256) (sym same) small)
 
 pub bytes_in_piece : (file : Option (List ℕ)) (bytes : List ℕ) (pat i at n : ℕ) → C.piece_at file pat ≡ Ok bytes → pat + i ≡ at → 0 < i + n → i + n ≤ 1024
     → bytes_or faults.Truncated (Some bytes) i n ≡ bytes_or faults.Truncated file at n
 bytes_in_piece None bytes pat i at n is place some le = cc
 bytes_in_piece (Some file) bytes pat i at n is place some le =
     let same : front 1024 file pat ≡ bytes = cc in
-    ap (λ (b : List ℕ). bytes_or faults.Truncated (Some b) i n) (sym same) ∙ bytes_same 1024 file pat faults.Truncated i n some le ∙ ap (λ a. bytes_or faults.Truncated (Some file) a n) place
+    ap (λ b. bytes_or faults.Truncated (Some b) i n) (sym same) ∙ bytes_same 1024 file pat faults.Truncated i n some le ∙ ap (λ a. bytes_or faults.Truncated (Some file) a n) place

@@ -164,8 +164,8 @@ pub rows_whole : {A : Type 0} (texts : List ℕ) (old new : Rows A) (g : Group) 
     → AreAdded texts g.count old.rows.items new.rows.items → C.AreRows texts old → C.AreRows texts new
 rows_whole texts old new g groups there a is = record {
   counted = ap total groups ∙ total_push old.groups.items g ∙ omega (arith, is.counted, a.counted, C.length-append old.rows.items a.rows) ∙ sym (ap length a.added);
-  ids = subst (All (λ (r : Row). HasLabel texts r.id)) (sym a.added) (C.All-append (λ (r : Row). HasLabel texts r.id) old.rows.items a.rows is.ids a.ids);
-  kinds = subst (All (λ (x : Group). HasLabel texts x.kind)) (sym groups) (C.All-push (λ (x : Group). HasLabel texts x.kind) old.groups.items g is.kinds there);
+  ids = subst (All (λ r. HasLabel texts r.id)) (sym a.added) (C.All-append (λ r. HasLabel texts r.id) old.rows.items a.rows is.ids a.ids);
+  kinds = subst (All (λ x. HasLabel texts x.kind)) (sym groups) (C.All-push (λ x. HasLabel texts x.kind) old.groups.items g is.kinds there);
 }
 
 -- rows are placed one after the other

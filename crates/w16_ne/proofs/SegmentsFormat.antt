@@ -40,7 +40,7 @@ records_cases file flags end n false q h =
     let second = bind_ok (reaches (Some file) (end + 2 + 8 * word_of (take 2 (drop end file)) 0)) (λ _. Ok (word_of (take 2 (drop end file)) 0)) n first.1 in
     let all = reached file _ second.1.0 in
     let is : word_of (take 2 (drop end file)) 0 ≡ n = cc (second.1.1) in
-    let said : n ≡ word_of file end = sym is ∙ word_here file end in
+    let said = sym is ∙ word_here file end in
     inr (λ e. absurd (grind (arith, nat_tests, q, e)), said, rw (← is) all)
 
 pub records_are : (file : List ℕ) (flags end n : ℕ) → records_at (Some file) flags end ≡ Ok n → AreRecords file flags end n
@@ -51,9 +51,9 @@ pub records_read : (file : List ℕ) (flags end n : ℕ) → AreRecords file fla
 unfolding records_at
 records_read file flags end n (inl (none, zero_)) = let t : eqb (bit_and flags 0x100) 0 ≡ true = grind (arith, nat_tests, none) in rw (t, zero_) refl
 records_read file flags end n (inr (some, said, all)) =
-    let t : eqb (bit_and flags 0x100) 0 ≡ false = is_some (bit_and flags 0x100) some in
+    let t = is_some (bit_and flags 0x100) some in
     let first : ltb (length file) (end + 2) ≡ false = grind (arith, nat_tests, all) in
-    let count : word_of (take 2 (drop end file)) 0 ≡ n = word_here file end ∙ sym said in
+    let count = word_here file end ∙ sym said in
     let second : ltb (length file) (end + 2 + 8 * n) ≡ false = grind (arith, nat_tests, all) in
     rw (t, first, count, second) refl
 

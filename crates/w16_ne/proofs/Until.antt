@@ -106,5 +106,5 @@ entry_ends (Some file) len at e h r =
     let whole : length file ≡ len = cc in
     let inside : at + 1 + (count + 2) ≤ length file = grind (arith, C.nat_tests, rest.0) in
     let is : (take count (take (count + 2) (drop (at + 1) file)), C.word_of (take (count + 2) (drop (at + 1) file)) count) ≡ e = cc (rest.1) in
-    let long = ap (λ (x : Entry). length x.0) is in
+    let long = ap (λ x. length x.0) is in
     omega (arith, long, inside, whole, C.length-take count (take (count + 2) (drop (at + 1) file)))

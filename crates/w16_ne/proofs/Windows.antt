@@ -20,10 +20,10 @@ text_same most short file at word le small =
     let next : at + (word + 1) ≡ at + word + 1 = omega arith in
     bind_same (bytes_or short (Some w) word 1) (λ len. bytes_or short (Some w) (word + 1) (slice_index len 0)) (λ len. bytes_or short (Some file) (at + word + 1) (slice_index len 0))
     (λ len is.
-    (let cut : take 1 (drop word w) ≡ len = cut_or (ltb (length w) (word + 1)) short (take 1 (drop word w)) len is in
-    let count : slice_index len 0 ≡ slice_index w word = sym (ap (λ xs. slice_index xs 0) cut) ∙ byte_here w word in
+    (let cut = cut_or (ltb (length w) (word + 1)) short (take 1 (drop word w)) len is in
+    let count = sym (ap (λ xs. slice_index xs 0) cut) ∙ byte_here w word in
     bytes_same most file at short (word + 1) (slice_index len 0) (omega arith) (omega (arith, count, small, le)) ∙ ap (λ a. bytes_or short (Some file) a (slice_index len 0)) next))
-    ∙ ap (λ (r : Reading (List ℕ)). r >>= λ len. bytes_or short (Some file) (at + word + 1) (slice_index len 0))
+    ∙ ap (λ r. r >>= λ len. bytes_or short (Some file) (at + word + 1) (slice_index len 0))
     (bytes_same most file at short word 1 (omega arith) (omega (arith, le)))
 
 -- where the text is whole, and where it isn't

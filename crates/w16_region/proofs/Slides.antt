@@ -4,7 +4,7 @@ use Rattle.w16_region.proofs.Common.{ℕ, ◌≡◌, ◌+◌, ◌-◌, ◌<◌, 
 
 -- two pieces, one behind the other
 joined : (bytes : List ℕ) (from a b : ℕ) → part bytes from a ++ part bytes (from + a) b ≡ part bytes from (a + b)
-joined bytes from a b = ap (λ (zs : List ℕ). take a (drop from bytes) ++ take b zs) (sym (drop-drop a from bytes)) ∙ sym (C.take-add a b (drop from bytes))
+joined bytes from a b = ap (λ zs. take a (drop from bytes) ++ take b zs) (sym (drop-drop a from bytes)) ∙ sym (C.take-add a b _)
 
 pub slide_none : (bytes : List ℕ) (from to : ℕ) → put_part bytes to (part bytes from 0) ≡ bytes
 slide_none bytes from to = C.take-append-drop to bytes

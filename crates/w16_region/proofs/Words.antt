@@ -14,7 +14,7 @@ four value = length-bytes_low_first 0 4 value
 word_over : (bytes : List ℕ) (at value : ℕ) → at + 4 ≤ length bytes → little_bytes 4 value ++ drop 4 (part bytes at 4) ≡ little_bytes 4 value
 word_over bytes at value le =
     let long = M.length-part bytes at 4 le in
-    ap (λ (l : List ℕ). little_bytes 4 value ++ l) (drop_all 4 (part bytes at 4) (omega arith)) ∙ append-nil (little_bytes 4 value)
+    ap (λ l. little_bytes 4 value ++ l) (drop_all 4 (part bytes at 4) (omega arith)) ∙ append-nil _
 
 -- a vector that lent four bytes, in which a word was written
 pub items-put_word : {Z : Type 0} (v : Vec ℕ Z) (at value : ℕ) (lent left : List ℕ) → at + 4 ≤ length v.items → lent ≡ part v.items at 4 → left ≡ little_bytes 4 value ++ drop 4 lent
@@ -22,8 +22,8 @@ pub items-put_word : {Z : Type 0} (v : Vec ℕ Z) (at value : ℕ) (lent left : 
 unfolding put_word
 items-put_word v at value lent left le was is =
     let e = four value in
-    let word : left ≡ little_bytes 4 value = is ∙ ap (λ (l : List ℕ). little_bytes 4 value ++ drop 4 l) was ∙ word_over v.items at value le in
-    ap (λ (l : List ℕ). (with_items v (put_part v.items at l)).items) word ∙ with_items-put_part v at (little_bytes 4 value) (omega arith)
+    let word = is ∙ ap (λ l. little_bytes 4 value ++ drop 4 l) was ∙ word_over v.items at value le in
+    ap (λ l. (with_items v (put_part v.items at l)).items) word ∙ with_items-put_part v at (little_bytes 4 value) (omega arith)
 
 pub length-put_word : (bytes : List ℕ) (at value : ℕ) → at + 4 ≤ length bytes → length (put_word bytes at value) ≡ length bytes
 unfolding put_word
@@ -45,5 +45,5 @@ pub IsSameOutside-put_word : (bytes : List ℕ) (at value : ℕ) → at + 4 ≤ 
 unfolding put_word
 IsSameOutside-put_word bytes at value le = let e = four value in record {
   below = M.take-put_part bytes at (little_bytes 4 value) at (omega arith) (omega arith);
-  above = M.drop-put_part bytes at (little_bytes 4 value) (at + 4) (omega arith) (omega arith);
+  above = M.drop-put_part bytes at (little_bytes 4 value) _ (omega arith) (omega arith);
 }

@@ -25,7 +25,7 @@ abbrev pub resource_of : Option Module → ℕ → Option Resource
 resource_of p place = elim p as (λ _. Option Resource) [ None ↦ None | Some m ↦ numbered m.tables.resources place ]
 
 pub in_tables : (m : Module) (t : ne.Tables) (place : ℕ) → m.tables ≡ C.tables_in t → resource_of (Some m) place ≡ option_map resource_in (ne.resource_at t.resources place)
-in_tables m t place same = ap (λ (u : file.Tables). numbered u.resources place) same ∙ place_in t.resources place
+in_tables m t place same = ap (λ u. numbered u.resources place) same ∙ place_in t.resources place
 
 pub source_resource : (world : LoadingWorld) (handle place : ℕ) (name : List ℕ) (entry : Entry) → (s : IsSourceAt world.modules handle place name entry) → resource_at world handle place ≡ Some (resource_in (s.kind, entry))
 source_resource world handle place name entry s = ap (λ p. resource_of p place) s.loaded ∙ in_tables s.m s.t place s.tables ∙ ap (option_map resource_in) s.there

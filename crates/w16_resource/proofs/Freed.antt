@@ -18,7 +18,7 @@ module _ (old : LoadingWorld) (handle : ℕ) where
 
 -- The low byte of GlobalFlags counts locks.
 pub lock_count : (h : C.Handles) → C.AreHandles h → (handle slot : ℕ) → C.slot_of_handle h handle ≡ Some slot → C.global_flags h handle % 256 ≡ locks_at h.heap slot
-lock_count h is handle slot e = ap (λ (p : C.Option ℕ). elim p as (λ _. ℕ) [ None ↦ 0 | Some s ↦ unwrap_or (option_map (C.flags_of (is_shared h s)) (C.object_at h.heap s)) 0 ] % 256) e ∙ by (C.object_at h.heap slot) (is.heap.counted slot)
+lock_count h is handle slot e = ap (λ p. elim p as (λ _. ℕ) [ None ↦ 0 | Some s ↦ unwrap_or (option_map (C.flags_of (is_shared h s)) (C.object_at h.heap s)) 0 ] % 256) e ∙ by (C.object_at h.heap slot) (is.heap.counted slot)
   where
     low : (n : ℕ) → n ≤ 255 → (a b c : Bool) → (n + cond a 256 0 + cond b 8192 0 + cond c 0 16384) % 256 ≡ n
     low n le true true true = omega arith
@@ -30,6 +30,6 @@ lock_count h is handle slot e = ap (λ (p : C.Option ℕ). elim p as (λ _. ℕ)
     low n le false false true = omega arith
     low n le false false false = omega arith
 
-    by : (p : C.Option C.Object) → C.IfSome p C.IsCounted → unwrap_or (option_map (C.flags_of (is_shared h slot)) p) 0 % 256 ≡ unwrap_or (option_map (λ (o : C.Object). o.locks) p) 0
+    by : (p : C.Option C.Object) → C.IfSome p C.IsCounted → unwrap_or (option_map (C.flags_of (is_shared h slot)) p) 0 % 256 ≡ unwrap_or (option_map (λ o. o.locks) p) 0
     by None c = refl
     by (Some o) c = low o.locks c.0 (C.is_discardable o.kind) (is_shared h slot) (C.is_some o.bytes)

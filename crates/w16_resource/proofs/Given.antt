@@ -40,9 +40,9 @@ has_some file place n short inside =
 
 -- what was written is what its file gives it
 pub written_resource : {honest : Type 0} {files : List (List ℕ × List ℕ)} {name : List ℕ} {handles : C.Handles} {slot : ℕ} {entry : Entry} (s : C.IsSourceOf honest files name handles slot entry) (read : List ℕ)
-    → read ≡ take entry.len (drop entry.place s.file) → (bytes : List ℕ) → IsWritten read [] [] bytes → C.IsSomeAnd (C.owned_at handles slot) (λ (w : Owned). length bytes ≡ w.size) → bytes ≡ C.bytes_in s.file entry
+    → read ≡ take entry.len (drop entry.place s.file) → (bytes : List ℕ) → IsWritten read [] [] bytes → C.IsSomeAnd (C.owned_at handles slot) (λ w. length bytes ≡ w.size) → bytes ≡ C.bytes_in s.file entry
 written_resource {entry = entry} s read same bytes are sized =
-    let long : length bytes ≡ rounded_size entry.len = subst (λ p. C.IsSomeAnd p (λ (w : Owned). length bytes ≡ w.size)) s.sized sized in
+    let long = subst (λ p. C.IsSomeAnd p (λ w. length bytes ≡ w.size)) s.sized sized in
     let cut = C.length-take entry.len (drop entry.place s.file) in
     let up = rounded_up entry.len in
     sym (plain_image (take entry.len (drop entry.place s.file)) bytes (rounded_size entry.len) (omega (arith, cut, up, long)) long (subst (λ bs. IsWritten bs [] [] bytes) same are))

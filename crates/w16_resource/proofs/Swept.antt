@@ -100,9 +100,9 @@ mapped_some (Some x) f = refl
 
 -- Slots one after another.
 pub next_done : (world next : LoadingWorld) (slot : ℕ) → next ≡ without_orphan world slot → ((q : ℕ) → q < slot → is_left_over world q ≡ false) → (q : ℕ) → q < slot + 1 → is_left_over next q ≡ false
-next_done world next slot same done q lt = subst (λ (w : LoadingWorld). is_left_over w q ≡ false) (sym same) (elim (cases_eq q slot) [
+next_done world next slot same done q lt = subst (λ w. is_left_over w q ≡ false) (sym same) (elim (cases_eq q slot) [
   | inl e ↦ subst (λ k. is_left_over (without_orphan world slot) k ≡ false) (sym e) (swept_here world slot)
-  | inr d ↦ swept_other world slot q (done q (let f : q ≡ slot → ⊥ = d in omega (arith, lt, f)))
+  | inr d ↦ swept_other world slot q (done q (let f = d in omega (arith, lt, f)))
 ])
 
 -- where none is left up to here, and none was after

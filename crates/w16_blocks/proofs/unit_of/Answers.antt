@@ -3,5 +3,5 @@ use Rattle.w16_blocks.proofs.unit_of.Goals as goal
 
 pub returns : goal.returns
 returns c =
-    let whole : c.args.grain * c.units_in.result ≡ c.args.place - c.args.lo = rw c.units_in.ensures (whole_units c.args.grain c.args.lo c.args.place c.requires.some c.requires.from c.requires.low c.requires.grained) in
+    let whole : c.args.grain * c.units_in.result ≡ c.args.place - c.args.lo = rw c.units_in.ensures (whole_units _ _ _ c.requires.some c.requires.from c.requires.low c.requires.grained) in
     let from = c.requires.from in omega arith

@@ -5,25 +5,25 @@ use proofs.Keeping.{keeps_same}
 use Rattle.w16_arena.proofs.Arena.discard.Goals as goal
 
 pub returns-in_default-clause-err : goal.returns-in_default-clause-err
-returns-in_default-clause-err g c = discard_none c.args.self.now c.entry.ensures.sound c.args.id (sym c.entry.ensures.value ∙ c.in_default.is)
+returns-in_default-clause-err g c = discard_none _ c.entry.ensures.sound _ (sym c.entry.ensures.value ∙ c.in_default.is)
 
 pub returns-then-entry-gt0-clause-err : goal.returns-then-entry-gt0-clause-err
-returns-then-entry-gt0-clause-err g c = discard_locked c.args.self.now c.entry.ensures.sound c.args.id c.in-Some.entry (sym c.entry.ensures.value ∙ c.in-Some.is) (lt-ltb 0 c.in-Some.entry.locks c.if-entry-gt0.true)
+returns-then-entry-gt0-clause-err g c = discard_locked _ c.entry.ensures.sound _ c.in-Some.entry (sym c.entry.ensures.value ∙ c.in-Some.is) (lt-ltb 0 _ c.if-entry-gt0.true)
 
 pub returns-then-not-is_discardable-clause-err : goal.returns-then-not-is_discardable-clause-err
-returns-then-not-is_discardable-clause-err g c = discard_other c.args.self.now c.entry.ensures.sound c.args.id c.in-Some.entry (sym c.entry.ensures.value ∙ c.in-Some.is) (le-ltb 0 c.in-Some.entry.locks c.if-entry-gt0.false) (sym c.is_discardable.ensures ∙ c.if-not-is_discardable.true)
+returns-then-not-is_discardable-clause-err g c = discard_other _ c.entry.ensures.sound _ c.in-Some.entry (sym c.entry.ensures.value ∙ c.in-Some.is) (le-ltb 0 _ c.if-entry-gt0.false) (sym c.is_discardable.ensures ∙ c.if-not-is_discardable.true)
 
 pub returns-clause-ok : goal.returns-clause-ok
-returns-clause-ok g c = discard_ok c.args.self.now c.entry.ensures.sound c.args.id c.in-Some.entry (sym c.entry.ensures.value ∙ c.in-Some.is) (le-ltb 0 c.in-Some.entry.locks c.if-entry-gt0.false) (sym c.is_discardable.ensures ∙ c.if-not-is_discardable.false) c.give_up.ensures.steps
+returns-clause-ok g c = discard_ok _ c.entry.ensures.sound _ c.in-Some.entry (sym c.entry.ensures.value ∙ c.in-Some.is) (le-ltb 0 _ c.if-entry-gt0.false) (sym c.is_discardable.ensures ∙ c.if-not-is_discardable.false) c.give_up.ensures.steps
 
 pub returns-in_default-clause-bytes : goal.returns-in_default-clause-bytes
-returns-in_default-clause-bytes g c = keeps_same c.args.self.now.table.lo c.args.self.now.table.hi c.args.self.now.table.blocks c.args.space.now c.requires.memory.kept
+returns-in_default-clause-bytes g c = keeps_same _ _ _ _ c.requires.memory.kept
 
 pub returns-then-entry-gt0-clause-bytes : goal.returns-then-entry-gt0-clause-bytes
-returns-then-entry-gt0-clause-bytes g c = keeps_same c.args.self.now.table.lo c.args.self.now.table.hi c.args.self.now.table.blocks c.args.space.now c.requires.memory.kept
+returns-then-entry-gt0-clause-bytes g c = keeps_same _ _ _ _ c.requires.memory.kept
 
 pub returns-then-not-is_discardable-clause-bytes : goal.returns-then-not-is_discardable-clause-bytes
-returns-then-not-is_discardable-clause-bytes g c = keeps_same c.args.self.now.table.lo c.args.self.now.table.hi c.args.self.now.table.blocks c.args.space.now c.requires.memory.kept
+returns-then-not-is_discardable-clause-bytes g c = keeps_same _ _ _ _ c.requires.memory.kept
 
 pub returns-then-entry-gt0-clause-ok : goal.returns-then-entry-gt0-clause-ok
 returns-then-entry-gt0-clause-ok g c = tt
@@ -32,4 +32,4 @@ pub returns-then-not-is_discardable-clause-ok : goal.returns-then-not-is_discard
 returns-then-not-is_discardable-clause-ok g c = tt
 
 pub give_up-requires-clause-unlocked : goal.give_up-requires-clause-unlocked
-give_up-requires-clause-unlocked g c = subst (λ (o : Option Entry). IsSomeAnd o (λ e. e.locks ≡ 0)) (sym (sym c.entry.ensures.value ∙ c.in-Some.is)) (omega arith)
+give_up-requires-clause-unlocked g c = subst (λ o. IsSomeAnd o (λ e. e.locks ≡ 0)) (sym (sym c.entry.ensures.value ∙ c.in-Some.is)) (omega arith)

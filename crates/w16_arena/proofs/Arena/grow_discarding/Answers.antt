@@ -10,7 +10,7 @@ least_discards-requires-clause-h g c = entry_below c.args.self.now.table c.is_so
 pub returns-in_default-clause-refused : goal.returns-in_default-clause-refused
 returns-in_default-clause-refused g c =
     let found = c.least_discards.ensures in let m = g.S.Space.bytes c.args.space.now in let b = c.args.block in
-    (refused_then c.args.self.now found.sound m c.requires.memory.inside b c.requires.known c.args.size c.requires.more c.requires.rounded c.args.options c.requires.free c.requires.may found.value c.in_default.is, found.same, refl)
+    (refused_then c.args.self.now found.sound m c.requires.memory.inside b c.requires.known _ c.requires.more c.requires.rounded _ c.requires.free c.requires.may found.value c.in_default.is, found.same, refl)
 
 pub grow_now-requires-clause-known : goal.grow_now-requires-clause-known
 grow_now-requires-clause-known g c =
@@ -34,16 +34,16 @@ returns g c =
     let discards = rw found.same at c.discard_first.ensures.discards in
     let bytes = c.discard_first.ensures.bytes in
     let p = c.in-Some-grow_now.ensures in
-    let new = heap_in c.grow_now.new.self.table (g.S.Space.bytes c.grow_now.new.space) in
-    let stood = subst (λ h. IsSomeAnd (object_at h b.id) (λ o. Stands h b.id c.args.size (IsGrown c.args.options.zero c.args.size o) (λ _ order. order) c.args.options c.in-Some-grow_now.placed new)) (heap_kept m (g.S.Space.bytes c.discard_first.new.space) mid.table bytes.contents) p.stands in
+    let new = heap_in c.grow_now.new.self.table (g.S.Space.bytes _) in
+    let stood = subst (λ h. IsSomeAnd (object_at h b.id) (λ o. Stands h b.id c.args.size (IsGrown c.args.options.zero c.args.size o) (λ _ order. order) c.args.options c.in-Some-grow_now.placed new)) (heap_kept m (g.S.Space.bytes _) mid.table bytes.contents) p.stands in
     record {
-      resized = grows_then c.args.self.now found.sound m c.requires.memory.inside b c.requires.known c.args.size
-          c.requires.more c.requires.rounded c.args.options c.requires.free c.requires.may found.value c.in-Some.k
-          c.in-Some.is mid discards c.in-Some-grow_now.placed new stood c.reveal_bytes.ensures p.discarded;
+      resized = grows_then c.args.self.now found.sound m c.requires.memory.inside b c.requires.known _
+          c.requires.more c.requires.rounded _ c.requires.free c.requires.may found.value c.in-Some.k
+          c.in-Some.is mid discards _ new stood c.reveal_bytes.ensures p.discarded;
       refused = tt;
       rest = rest_after discards.range bytes.rest p.rest;
-      written = p.written ∙ ap (λ (w : ℕ). counted (counted w c.in-Some-grow_now.placed.moved) (if c.args.options.zero then c.args.size - b.size else 0)) bytes.count;
+      written = p.written ∙ ap (λ w. counted (counted w c.in-Some-grow_now.placed.moved) (if c.args.options.zero then c.args.size - b.size else 0)) bytes.count;
     }
 
 pub returns-in_default-clause-rest : goal.returns-in_default-clause-rest
-returns-in_default-clause-rest g c = let found = c.least_discards.ensures in rw found.same (none_changed c.args.space.now found.sound c.requires.memory.kept)
+returns-in_default-clause-rest g c = let found = c.least_discards.ensures in rw found.same (none_changed _ found.sound c.requires.memory.kept)

@@ -19,32 +19,32 @@ module _ (g : Given.Over) (c : goal.After-clear_if g) where
 
 pub invariant_of-self-2 : goal.invariant_of-self-2
 invariant_of-self-2 g c =
-    let m = g.S.Space.bytes c.args.space.now in let b : Block = c.args.block in let n = c.args.size in let e = c.in_ok-placed.ensures in let p = c.in_ok-placed.placed in
+    let m = g.S.Space.bytes c.args.space.now in let b = c.args.block in let n = c.args.size in let e = c.in_ok-placed.ensures in let p = c.in_ok-placed.placed in
     kept_grown c.self.invariant b (known g c) c.bounds.ensures.ordered m (inside g c) n c.requires.more (rounded g c) c.args.options p e.grown.value e.grown.laid e.grown.slid e.grown.free e.grown.bytes c.reveal_bytes.ensures c.clear_if.ensures.bytes
 
 pub returns-clause-stands : goal.returns-clause-stands
 returns-clause-stands g c =
-    let m = g.S.Space.bytes c.args.space.now in let b : Block = c.args.block in let n = c.args.size in let e = c.in_ok-placed.ensures in let p = c.in_ok-placed.placed in
+    let m = g.S.Space.bytes c.args.space.now in let b = c.args.block in let n = c.args.size in let e = c.in_ok-placed.ensures in let p = c.in_ok-placed.placed in
     told c.self.invariant c.self.view_is (λ t. C.IsSomeAnd (C.object_at (heap_in t m) b.id)
     (λ o. C.Stands (heap_in t m) b.id n (C.IsGrown c.args.options.zero n o) (λ _ order. order) c.args.options p
     (heap_of c.self.inside.entries.items c.grow_block.new.blocks c.self.inside.order.ids
     (g.S.Space.bytes c.clear_if.new.space))))
-    (of_object (table_of c.self.inside.entries.items c.self.inside.blocks c.self.inside.order.ids) c.self.invariant.sound m (inside g c) b (known g c)
+    (of_object (table_of _ c.self.inside.blocks _) c.self.invariant.sound m (inside g c) b (known g c)
     (λ o. C.Stands (heap_of c.self.inside.entries.items c.self.inside.blocks c.self.inside.order.ids m) b.id n
     (C.IsGrown c.args.options.zero n o) (λ _ order. order) c.args.options p
     (heap_of c.self.inside.entries.items c.grow_block.new.blocks c.self.inside.order.ids
-    (g.S.Space.bytes c.clear_if.new.space)))
+    (g.S.Space.bytes _)))
     (stands_grown c.self.invariant b (known g c) c.bounds.ensures.ordered m (inside g c) n c.requires.more (rounded g c) c.args.options p e.grown.value e.grown.laid e.grown.slid e.grown.free e.grown.bytes c.reveal_bytes.ensures c.clear_if.ensures.bytes (λ off. (e.still off).0) e.grown.moved))
 
 pub returns-clause-hole : goal.returns-clause-hole
 returns-clause-hole g c =
-    let m = g.S.Space.bytes c.args.space.now in let b : Block = c.args.block in let n = c.args.size in let e = c.in_ok-placed.ensures in let p = c.in_ok-placed.placed in
+    let m = g.S.Space.bytes c.args.space.now in let b = c.args.block in let n = c.args.size in let e = c.in_ok-placed.ensures in let p = c.in_ok-placed.placed in
     λ off. told c.self.invariant c.self.view_is (λ t. C.StaysOrMovesToHole (heap_in t m) b.id n (heap_of c.self.inside.entries.items c.grow_block.new.blocks c.self.inside.order.ids (g.S.Space.bytes c.clear_if.new.space)))
     (hole_grown c.self.invariant b (known g c) c.bounds.ensures.ordered m (inside g c) n c.requires.more (rounded g c) c.args.options p e.grown.value e.grown.laid e.grown.slid e.grown.free e.grown.bytes c.reveal_bytes.ensures c.clear_if.ensures.bytes (λ off. (e.still off).0) (e.still off).1)
 
 pub returns-clause-rest : goal.returns-clause-rest
 returns-clause-rest g c =
-    let m = g.S.Space.bytes c.args.space.now in let b : Block = c.args.block in let n = c.args.size in let e = c.in_ok-placed.ensures in let p = c.in_ok-placed.placed in
+    let m = g.S.Space.bytes c.args.space.now in let b = c.args.block in let n = c.args.size in let e = c.in_ok-placed.ensures in let p = c.in_ok-placed.placed in
     told c.self.invariant c.self.view_is (λ t. C.KeepsRest g.H.Holes.are_in g.S.Space.bytes g.S.Space.lenders t
     c.args.space.now (table_of c.self.inside.entries.items c.grow_block.new.blocks c.self.inside.order.ids)
     c.clear_if.new.space) (rest_grown c.self.invariant b (known g c) c.bounds.ensures.ordered m (inside g c) n
@@ -54,11 +54,11 @@ returns-clause-rest g c =
 
 pub returns-clause-written : goal.returns-clause-written
 returns-clause-written g c =
-    c.clear_if.ensures.written ∙ counted_if c.args.options.zero (g.S.Space.written c.grow_block.new.space) (c.args.size - c.args.block.size)
-    ∙ ap (λ (w : ℕ). C.counted w (if c.args.options.zero then c.args.size - c.args.block.size else 0)) c.in_ok-placed.ensures.written
+    c.clear_if.ensures.written ∙ counted_if c.args.options.zero (g.S.Space.written _) (c.args.size - c.args.block.size)
+    ∙ ap (λ w. C.counted w (if c.args.options.zero then c.args.size - c.args.block.size else 0)) c.in_ok-placed.ensures.written
 
 pub returns-clause-discarded : goal.returns-clause-discarded
-returns-clause-discarded g c = ap (λ (s : C.ArenaState). s.discarded) c.self.view_is
+returns-clause-discarded g c = ap (λ s. s.discarded) c.self.view_is
 
 pub returns-clause-sound : goal.returns-clause-sound
 returns-clause-sound g c = told c.self.invariant c.self.view_is (λ t. C.IsSound t) c.self.invariant.sound

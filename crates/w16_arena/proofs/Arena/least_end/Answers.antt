@@ -54,9 +54,9 @@ returns-clause-least g c =
     let n = c.args.size in let s = c.match-block.stretch in let m = g.S.Space.bytes c.args.space.now in let found = c.end_for.result in
     told c.self.invariant c.self.view_is (λ t. IfSome found (λ end. (end ≤ LAST_END) × IsLeastEnd (heap_in t m) c.args.id n c.args.options end))
     (least_is (heap_in (table g c) m) c.args.id n c.args.options s (tells g c) found
-    (subst (λ (hi : ℕ). IfSome found (λ end. (end ≤ LAST_END) × (hi ≤ end))) (top g c) c.end_for.ensures.some)
+    (subst (λ hi. IfSome found (λ end. (end ≤ LAST_END) × (hi ≤ end))) (top g c) c.end_for.ensures.some)
     c.end_for.ensures.enough
-    (subst (λ (hi : ℕ). IfSome found (λ end. (e : ℕ) → hi ≤ e → e < end → nat_le n (stretch_at s e) ≡ false)) (top g c) c.end_for.ensures.least))
+    (subst (λ hi. IfSome found (λ end. (e : ℕ) → hi ≤ e → e < end → nat_le n (stretch_at s e) ≡ false)) (top g c) c.end_for.ensures.least))
 
 pub returns-clause-none : goal.returns-clause-none
 unfolding table memory
@@ -64,15 +64,15 @@ returns-clause-none g c =
     let n = c.args.size in let s = c.match-block.stretch in let m = g.S.Space.bytes c.args.space.now in let found = c.end_for.result in
     told c.self.invariant c.self.view_is (λ t. IfNone found (HasNoEnd LAST_END (heap_in t m) c.args.id n c.args.options))
     (none_found (heap_in (table g c) m) c.args.id n c.args.options s (tells g c) found
-    (subst (λ (hi : ℕ). IfNone found ((e : ℕ) → hi ≤ e → e ≤ LAST_END → nat_le n (stretch_at s e) ≡ false)) (top g c) c.end_for.ensures.none))
+    (subst (λ hi. IfNone found ((e : ℕ) → hi ≤ e → e ≤ LAST_END → nat_le n (stretch_at s e) ≡ false)) (top g c) c.end_for.ensures.none))
 
 pub returns-clause-grained : goal.returns-clause-grained
 unfolding table memory
 returns-clause-grained g c =
     let grain = c.self.inside.blocks.grain in let found = c.end_for.result in
     let last : IfSome c.match-block.stretch.last (IsMultiple grain) = elim c.match-block.branch [
-      | in-None w ↦ subst (λ (s : Stretch). IfSome s.last (IsMultiple grain)) (sym w.stretch-is) w.stretch_for-stretch.ensures.grained
-      | in-Some w ↦ subst (λ (s : Stretch). IfSome s.last (IsMultiple grain)) (sym w.stretch-is) w.growth_stretch-stretch.ensures.grained
+      | in-None w ↦ subst (λ s. IfSome s.last (IsMultiple grain)) (sym w.stretch-is) w.stretch_for-stretch.ensures.grained
+      | in-Some w ↦ subst (λ s. IfSome s.last (IsMultiple grain)) (sym w.stretch-is) w.growth_stretch-stretch.ensures.grained
     ] in
     told c.self.invariant c.self.view_is (λ t. IsMultiple t.grain t.hi → IsMultiple t.grain c.args.size → IfSome found (IsMultiple t.grain))
     (λ hi size. c.end_for.ensures.grained grain (subst (IsMultiple grain) (sym (top g c)) hi) size last)

@@ -4,24 +4,24 @@ use Rattle.w16_arena.proofs.Refusals.{lock_absent, lock_none, lock_fixed, lock_f
 use Rattle.w16_arena.proofs.Arena.lock.Goals as goal
 
 pub returns-then-is_none-clause-err : goal.returns-then-is_none-clause-err
-returns-then-is_none-clause-err g c = lock_absent c.args.self.now c.block.ensures.sound c.args.id (sym c.block.ensures.value ∙ nothing c.block.result c.if-is_none.ensures)
+returns-then-is_none-clause-err g c = lock_absent _ c.block.ensures.sound _ (sym c.block.ensures.value ∙ nothing _ c.if-is_none.ensures)
 
 pub returns-in_default-clause-err : goal.returns-in_default-clause-err
-returns-in_default-clause-err g c = lock_none c.args.self.now c.entry.ensures.sound c.args.id (sym c.entry.ensures.value ∙ c.in_default.is)
+returns-in_default-clause-err g c = lock_none _ c.entry.ensures.sound _ (sym c.entry.ensures.value ∙ c.in_default.is)
 
 pub returns-then-is_fixed-clause-err : goal.returns-then-is_fixed-clause-err
-returns-then-is_fixed-clause-err g c = lock_fixed c.args.self.now c.entry.ensures.sound c.args.id c.in-Some.entry (sym c.entry.ensures.value ∙ c.in-Some.is) (ap is_some (sym c.block.ensures.value) ∙ c.if-is_none.ensures) (sym c.is_fixed.ensures ∙ c.if-is_fixed.true)
+returns-then-is_fixed-clause-err g c = lock_fixed _ c.entry.ensures.sound _ c.in-Some.entry (sym c.entry.ensures.value ∙ c.in-Some.is) (ap is_some (sym c.block.ensures.value) ∙ c.if-is_none.ensures) (sym c.is_fixed.ensures ∙ c.if-is_fixed.true)
 
 pub returns-then-entry-clause-err : goal.returns-then-entry-clause-err
-returns-then-entry-clause-err g c = lock_full c.args.self.now c.entry.ensures.sound c.args.id c.in-Some.entry
+returns-then-entry-clause-err g c = lock_full _ c.entry.ensures.sound _ c.in-Some.entry
     (sym c.entry.ensures.value ∙ c.in-Some.is) (ap is_some (sym c.block.ensures.value) ∙ c.if-is_none.ensures)
-    (sym c.is_fixed.ensures ∙ c.if-is_fixed.false) (eq-eqb c.in-Some.entry.locks 255 c.if-entry.true)
+    (sym c.is_fixed.ensures ∙ c.if-is_fixed.false) (eq-eqb _ 255 c.if-entry.true)
 
 pub returns-clause-ok : goal.returns-clause-ok
-returns-clause-ok g c = lock_ok c.args.self.now c.entry.ensures.sound c.args.id c.in-Some.entry
+returns-clause-ok g c = lock_ok _ c.entry.ensures.sound _ c.in-Some.entry
     (sym c.entry.ensures.value ∙ c.in-Some.is) (ap is_some (sym c.block.ensures.value) ∙ c.if-is_none.ensures)
-    (c.in-Some.entry.locks + 1) refl (sym c.is_fixed.ensures ∙ c.if-is_fixed.false)
-    (ne_eqb c.in-Some.entry.locks 255 c.if-entry.false) c.set_locks.ensures.steps c.touch.ensures.steps
+    _ refl (sym c.is_fixed.ensures ∙ c.if-is_fixed.false)
+    (ne_eqb _ 255 c.if-entry.false) c.set_locks.ensures.steps c.touch.ensures.steps
 
 pub returns-then-is_none-clause-ok : goal.returns-then-is_none-clause-ok
 returns-then-is_none-clause-ok g c = tt

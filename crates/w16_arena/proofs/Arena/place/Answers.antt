@@ -7,38 +7,38 @@ use Rattle.w16_arena.proofs.Arena.place.Goals as goal
 
 pub insert-requires-clause-fits : goal.insert-requires-clause-fits
 insert-requires-clause-fits g c =
-    may_insert c.self.invariant c.self.view_is (g.S.Space.bytes c.args.space.now) c.reveal_bytes.ensures c.requires.memory.inside c.args.id c.args.size c.args.kind c.args.options c.requires.id c.requires.absent c.requires.some c.requires.rounded
+    may_insert c.self.invariant c.self.view_is (g.S.Space.bytes _) c.reveal_bytes.ensures c.requires.memory.inside _ _ c.args.kind c.args.options c.requires.id c.requires.absent c.requires.some c.requires.rounded
     c.in_ok-placed.placed c.in_ok-placed.ensures.slid c.in_ok-placed.ensures.free c.hold.ensures
 
 pub invariant_of-self-2 : goal.invariant_of-self-2
 invariant_of-self-2 g c =
     let moved = moved_kept c.in_ok-placed.placed.slid.from c.in_ok-placed.placed.slid.to _ _ _ _ _ c.in_ok-placed.ensures.slid c.insert.ensures.bytes.contents c.insert.ensures.bytes.rest.bytes.long c.insert.ensures.small in
-    kept_placed c.self.invariant c.self.view_is (g.S.Space.bytes c.args.space.now) c.reveal_bytes.ensures c.requires.memory.inside c.args.id c.args.size c.args.kind c.args.options c.requires.id c.requires.absent c.requires.some c.requires.rounded
+    kept_placed c.self.invariant c.self.view_is _ c.reveal_bytes.ensures c.requires.memory.inside _ c.args.size _ c.args.options c.requires.id c.requires.absent c.requires.some c.requires.rounded
     c.in_ok-placed.placed moved c.in_ok-placed.ensures.free c.hold.ensures c.insert.ensures.value c.insert.ensures.ordered c.clear_if.ensures.bytes c.list_new.ensures
 
 pub returns-clause-stands : goal.returns-clause-stands
 returns-clause-stands g c =
-    let moved = moved_kept c.in_ok-placed.placed.slid.from c.in_ok-placed.placed.slid.to _ _ _ _ _ c.in_ok-placed.ensures.slid c.insert.ensures.bytes.contents c.insert.ensures.bytes.rest.bytes.long c.insert.ensures.small in
-    stands_placed c.self.invariant c.self.view_is (g.S.Space.bytes c.args.space.now) c.reveal_bytes.ensures c.requires.memory.inside c.args.id c.args.size c.args.kind c.args.options c.requires.id c.requires.absent c.requires.some c.requires.rounded
-    c.in_ok-placed.placed moved c.in_ok-placed.ensures.free c.hold.ensures c.insert.ensures.value c.insert.ensures.ordered c.clear_if.ensures.bytes c.list_new.ensures
+    let moved = moved_kept _ _ _ _ _ _ _ c.in_ok-placed.ensures.slid c.insert.ensures.bytes.contents c.insert.ensures.bytes.rest.bytes.long c.insert.ensures.small in
+    stands_placed c.self.invariant c.self.view_is _ c.reveal_bytes.ensures c.requires.memory.inside _ _ _ _ c.requires.id c.requires.absent c.requires.some c.requires.rounded
+    _ moved c.in_ok-placed.ensures.free c.hold.ensures c.insert.ensures.value c.insert.ensures.ordered c.clear_if.ensures.bytes c.list_new.ensures
     (λ off. (c.in_ok-placed.ensures.still off).0) c.in_ok-placed.ensures.moved
 
 pub returns-clause-rest : goal.returns-clause-rest
 returns-clause-rest g c =
     let slid = c.in_ok-placed.ensures.slid in
-    let lo = ap (λ (l : C.Layout). l.lo) slid.same in let hi = ap (λ (l : C.Layout). l.hi) slid.same in
-    let moved = moved_kept c.in_ok-placed.placed.slid.from c.in_ok-placed.placed.slid.to _ _ _ _ _ slid c.insert.ensures.bytes.contents c.insert.ensures.bytes.rest.bytes.long c.insert.ensures.small in
-    rest_placed c.self.invariant c.self.view_is (g.S.Space.bytes c.args.space.now) c.reveal_bytes.ensures c.requires.memory.inside c.args.id c.args.size c.args.kind c.args.options c.requires.id c.requires.absent c.requires.some c.requires.rounded
+    let lo = ap (λ l. l.lo) slid.same in let hi = ap (λ l. l.hi) slid.same in
+    let moved = moved_kept _ _ _ _ _ _ _ slid c.insert.ensures.bytes.contents c.insert.ensures.bytes.rest.bytes.long c.insert.ensures.small in
+    rest_placed c.self.invariant c.self.view_is _ c.reveal_bytes.ensures c.requires.memory.inside _ c.args.size _ c.args.options c.requires.id c.requires.absent c.requires.some c.requires.rounded
     c.in_ok-placed.placed moved c.in_ok-placed.ensures.free c.hold.ensures c.insert.ensures.value c.insert.ensures.ordered c.clear_if.ensures.bytes c.list_new.ensures g.met.H.Holes.stay
     (C.leaves_more c.in_ok-placed.ensures.rest c.insert.ensures.bytes.rest (omega arith) (omega arith)) c.clear_if.ensures.rest c.clear_if.ensures.lenders
 
 pub returns-clause-written : goal.returns-clause-written
 returns-clause-written g c =
-    c.clear_if.ensures.written ∙ counted_if c.args.options.zero (g.S.Space.written c.insert.new.space) c.args.size
-    ∙ ap (λ (w : ℕ). C.counted w (if c.args.options.zero then c.args.size else 0)) (c.insert.ensures.bytes.count ∙ c.in_ok-placed.ensures.written)
+    c.clear_if.ensures.written ∙ counted_if c.args.options.zero (g.S.Space.written _) c.args.size
+    ∙ ap (λ w. C.counted w (if c.args.options.zero then c.args.size else 0)) (c.insert.ensures.bytes.count ∙ c.in_ok-placed.ensures.written)
 
 pub returns-clause-discarded : goal.returns-clause-discarded
-returns-clause-discarded g c = ap (λ (s : C.ArenaState). s.discarded) c.self.view_is
+returns-clause-discarded g c = ap (λ s. s.discarded) c.self.view_is
 
 pub returns-clause-sound : goal.returns-clause-sound
 returns-clause-sound g c = told c.self.invariant c.self.view_is (λ t. C.IsSound t) c.self.invariant.sound

@@ -12,53 +12,53 @@ unreachable-requires g c =
 -- An object without bytes.
 
 pub alloc-requires-clause-id : goal.alloc-requires-clause-id
-alloc-requires-clause-id g c = in_list c.args.self.now.table.entries c.args.id c.in-Some.entry (sym c.in-Some.ensures.value)
+alloc-requires-clause-id g c = in_list _ _ c.in-Some.entry (sym c.in-Some.ensures.value)
 
 pub alloc-requires-clause-absent : goal.alloc-requires-clause-absent
 alloc-requires-clause-absent g c = sym c.in_default-block.ensures.value
 
 pub returns-in_default-block-clause-reallocated : goal.returns-in_default-block-clause-reallocated
 returns-in_default-block-clause-reallocated g c =
-    revived c.args.self.now.table c.in-Some.ensures.sound (g.S.Space.bytes c.args.space.now) c.requires.memory.inside
-    c.args.id c.in-Some.entry (sym c.in-Some.ensures.value) (sym c.in_default-block.ensures.value) c.args.size
-    c.args.options (is_ok c.alloc.result) (heap_in c.alloc.new.self.table (g.S.Space.bytes c.alloc.new.space))
+    revived c.args.self.now.table c.in-Some.ensures.sound (g.S.Space.bytes _) c.requires.memory.inside
+    _ c.in-Some.entry (sym c.in-Some.ensures.value) (sym c.in_default-block.ensures.value) _
+    _ _ _
     c.alloc.ensures.allocated
 
 pub returns-in_default-block-clause-fewest : goal.returns-in_default-block-clause-fewest
 returns-in_default-block-clause-fewest g c =
-    let m = g.S.Space.bytes c.args.space.now in let t : Table = c.args.self.now.table in
-    fewest_law (heap_in t m) (heap_in c.alloc.new.self.table (g.S.Space.bytes c.alloc.new.space)) c.args.id c.args.size c.args.options (is_ok c.alloc.result) (sound_heap t c.in-Some.ensures.sound m c.requires.memory.inside c.reveal_bytes.ensures) (returns-in_default-block-clause-reallocated g c)
+    let m = g.S.Space.bytes c.args.space.now in let t = c.args.self.now.table in
+    fewest_law _ _ _ _ _ _ (sound_heap t c.in-Some.ensures.sound m c.requires.memory.inside c.reveal_bytes.ensures) (returns-in_default-block-clause-reallocated g c)
 
 pub returns-in_default-block-clause-discarded : goal.returns-in_default-block-clause-discarded
 returns-in_default-block-clause-discarded g c =
-    revived_listed c.args.self.now.table c.in-Some.ensures.sound (g.S.Space.bytes c.args.space.now)
+    revived_listed c.args.self.now.table c.in-Some.ensures.sound (g.S.Space.bytes _)
     c.requires.memory.inside c.args.id c.in-Some.entry (sym c.in-Some.ensures.value)
-    (sym c.in_default-block.ensures.value) c.args.size c.args.options c.alloc.new.self.discarded c.alloc.result
+    (sym c.in_default-block.ensures.value) c.args.size c.args.options c.alloc.new.self.discarded _
     c.alloc.ensures.discarded
 
 pub returns-in_default-block-clause-written : goal.returns-in_default-block-clause-written
 returns-in_default-block-clause-written g c =
-    let m = g.S.Space.bytes c.args.space.now in let t : Table = c.args.self.now.table in
-    revived_written c.alloc.result (g.S.Space.written c.args.space.now) (g.S.Space.written c.alloc.new.space) c.args.options.zero c.args.size (unwrap_or (option_map (length {A = ℕ}) (bytes_at (heap_in t m) c.args.id)) 0)
-    (no_size t c.in-Some.ensures.sound m c.requires.memory.inside c.args.id c.in-Some.entry (sym c.in-Some.ensures.value) (sym c.in_default-block.ensures.value)) c.alloc.ensures.written
+    let m = g.S.Space.bytes c.args.space.now in let t = c.args.self.now.table in
+    revived_written _ _ _ _ _ _
+    (no_size t c.in-Some.ensures.sound m c.requires.memory.inside _ c.in-Some.entry (sym c.in-Some.ensures.value) (sym c.in_default-block.ensures.value)) c.alloc.ensures.written
 
 -- One that has as many bytes or more.
 
 pub cut-requires-clause-known : goal.cut-requires-clause-known
-cut-requires-clause-known g c = (found_known c.args.self.now.table c.args.id c.in-Some-block.block c.in-Some-block.ensures.value).1
+cut-requires-clause-known g c = (found_known c.args.self.now.table c.args.id _ c.in-Some-block.ensures.value).1
 
 cut_is : (g : Given.Over) (c : goal.After-cut g) → IsResized (heap_in c.args.self.now.table (g.S.Space.bytes c.args.space.now)) c.args.id c.args.size c.args.options c.cut.result c.cut.new.self.discarded (heap_in c.cut.new.self.table (g.S.Space.bytes c.cut.new.space))
 cut_is g c =
     subst (λ q. IsResized (heap_in c.args.self.now.table (g.S.Space.bytes c.args.space.now)) q c.args.size c.args.options c.cut.result c.cut.new.self.discarded (heap_in c.cut.new.self.table (g.S.Space.bytes c.cut.new.space)))
-    (found_known c.args.self.now.table c.args.id c.in-Some-block.block c.in-Some-block.ensures.value).0 (c.cut.ensures.resized c.args.options)
+    (found_known c.args.self.now.table _ c.in-Some-block.block c.in-Some-block.ensures.value).0 (c.cut.ensures.resized _)
 
 pub returns-then-size-block-clause-reallocated : goal.returns-then-size-block-clause-reallocated
 returns-then-size-block-clause-reallocated g c = (cut_is g c).reallocated
 
 pub returns-then-size-block-clause-fewest : goal.returns-then-size-block-clause-fewest
 returns-then-size-block-clause-fewest g c =
-    let m = g.S.Space.bytes c.args.space.now in let t : Table = c.args.self.now.table in
-    fewest_law (heap_in t m) (heap_in c.cut.new.self.table (g.S.Space.bytes c.cut.new.space)) c.args.id c.args.size c.args.options true (sound_heap t c.in-Some.ensures.sound m c.requires.memory.inside c.reveal_bytes.ensures) (cut_is g c).reallocated
+    let m = g.S.Space.bytes _ in let t = c.args.self.now.table in
+    fewest_law (heap_in t m) (heap_in c.cut.new.self.table (g.S.Space.bytes _)) c.args.id c.args.size c.args.options true (sound_heap t c.in-Some.ensures.sound m c.requires.memory.inside c.reveal_bytes.ensures) (cut_is g c).reallocated
 
 pub returns-then-size-block-clause-placed : goal.returns-then-size-block-clause-placed
 returns-then-size-block-clause-placed g c = (cut_is g c).placed
@@ -68,14 +68,14 @@ returns-then-size-block-clause-discarded g c = (cut_is g c).listed
 
 pub returns-then-size-block-clause-written : goal.returns-then-size-block-clause-written
 returns-then-size-block-clause-written g c =
-    let m = g.S.Space.bytes c.args.space.now in let t : Table = c.args.self.now.table in let n = c.args.size in
-    let s = size_told t c.in-Some.ensures.sound m c.requires.memory.inside c.args.id c.in-Some-block.block c.in-Some-block.ensures.value in
-    cut_written c.args.options.zero (g.S.Space.written c.args.space.now) (g.S.Space.written c.cut.new.space) c.cut.result.moved n (unwrap_or (option_map (length {A = ℕ}) (bytes_at (heap_in t m) c.args.id)) 0) c.cut.ensures.moved c.cut.ensures.written (subst (λ k. n ≤ k) (sym s) c.if-size-block.true)
+    let m = g.S.Space.bytes _ in let t = c.args.self.now.table in let n = c.args.size in
+    let s = size_told t c.in-Some.ensures.sound m c.requires.memory.inside _ c.in-Some-block.block c.in-Some-block.ensures.value in
+    cut_written _ _ _ _ n _ c.cut.ensures.moved c.cut.ensures.written (subst (λ k. n ≤ k) (sym s) c.if-size-block.true)
 
 -- One that keeps its address while it grows.
 
 pub grow_in_place-requires-clause-known : goal.grow_in_place-requires-clause-known
-grow_in_place-requires-clause-known g c = (found_known c.args.self.now.table c.args.id c.in-Some-block.block c.in-Some-block.ensures.value).1
+grow_in_place-requires-clause-known g c = (found_known c.args.self.now.table c.args.id _ c.in-Some-block.ensures.value).1
 
 pub grow_in_place-requires-clause-held : goal.grow_in_place-requires-clause-held
 grow_in_place-requires-clause-held g c =
@@ -86,18 +86,18 @@ grow_in_place_is : (g : Given.Over) (c : goal.After-grow_in_place g) → IsTold
     (heap_in c.grow_in_place.new.self.table (g.S.Space.bytes c.grow_in_place.new.space)) c.args.id c.args.size
     c.args.options c.grow_in_place.new.self.discarded c.grow_in_place.result
     ((c.grow_in_place.new.self ≡ c.args.self.now) × (c.grow_in_place.new.space ≡ c.args.space.now))
-grow_in_place_is g c = told_ok g.S.Space.bytes c.args.space.now c.grow_in_place.new.space c.args.self.now
-    c.grow_in_place.new.self c.args.id c.args.size c.in-Some-block.block c.args.options c.in-Some-block.ensures.value
-    c.grow_in_place.result c.grow_in_place.ensures.resized c.grow_in_place.ensures.refused
+grow_in_place_is g c = told_ok g.S.Space.bytes _ _ _
+    _ _ _ c.in-Some-block.block _ c.in-Some-block.ensures.value
+    _ c.grow_in_place.ensures.resized c.grow_in_place.ensures.refused
 
 pub returns-then-is_held-clause-reallocated : goal.returns-then-is_held-clause-reallocated
 returns-then-is_held-clause-reallocated g c = (grow_in_place_is g c).reallocated
 
 pub returns-then-is_held-clause-fewest : goal.returns-then-is_held-clause-fewest
 returns-then-is_held-clause-fewest g c =
-    let m = g.S.Space.bytes c.args.space.now in let t : Table = c.args.self.now.table in
-    fewest_law (heap_in t m) (heap_in c.grow_in_place.new.self.table (g.S.Space.bytes c.grow_in_place.new.space))
-    c.args.id c.args.size c.args.options (is_ok c.grow_in_place.result)
+    let m = g.S.Space.bytes c.args.space.now in let t = c.args.self.now.table in
+    fewest_law _ _
+    _ _ _ _
     (sound_heap t c.in-Some.ensures.sound m c.requires.memory.inside c.reveal_bytes.ensures)
     (grow_in_place_is g c).reallocated
 
@@ -112,19 +112,19 @@ returns-then-is_held-clause-refused g c = (grow_in_place_is g c).refused
 
 pub returns-then-is_held-clause-written : goal.returns-then-is_held-clause-written
 returns-then-is_held-clause-written g c =
-    let m = g.S.Space.bytes c.args.space.now in let t : Table = c.args.self.now.table in let n = c.args.size in let b = c.in-Some-block.block in
-    let s = size_told t c.in-Some.ensures.sound m c.requires.memory.inside c.args.id b c.in-Some-block.ensures.value in
-    size_written c.grow_in_place.result (g.S.Space.written c.args.space.now)
-    (g.S.Space.written c.grow_in_place.new.space) c.args.options.zero n b.size
-    (unwrap_or (option_map (length {A = ℕ}) (bytes_at (heap_in t m) c.args.id)) 0) (sym s)
-    (still_written c.grow_in_place.result (g.S.Space.written c.args.space.now)
-    (g.S.Space.written c.grow_in_place.new.space) (if c.args.options.zero then n - b.size else 0)
+    let m = g.S.Space.bytes _ in let t = c.args.self.now.table in let n = c.args.size in let b = c.in-Some-block.block in
+    let s = size_told t c.in-Some.ensures.sound m c.requires.memory.inside _ b c.in-Some-block.ensures.value in
+    size_written _ _
+    _ _ n b.size
+    _ (sym s)
+    (still_written _ _
+    _ _
     c.grow_in_place.ensures.moved c.grow_in_place.ensures.written)
 
 -- One that may move.
 
 pub grow-requires-clause-known : goal.grow-requires-clause-known
-grow-requires-clause-known g c = (found_known c.args.self.now.table c.args.id c.in-Some-block.block c.in-Some-block.ensures.value).1
+grow-requires-clause-known g c = (found_known c.args.self.now.table c.args.id _ c.in-Some-block.ensures.value).1
 
 pub grow-requires-clause-free : goal.grow-requires-clause-free
 grow-requires-clause-free g c =
@@ -135,15 +135,15 @@ grow_is : (g : Given.Over) (c : goal.After-grow g) → IsTold
     (heap_in c.grow.new.self.table (g.S.Space.bytes c.grow.new.space)) c.args.id c.args.size c.args.options
     c.grow.new.self.discarded c.grow.result ((c.grow.new.self ≡ c.args.self.now) ×
     (c.grow.new.space ≡ c.args.space.now))
-grow_is g c = told_ok g.S.Space.bytes c.args.space.now c.grow.new.space c.args.self.now c.grow.new.self c.args.id c.args.size c.in-Some-block.block c.args.options c.in-Some-block.ensures.value c.grow.result c.grow.ensures.resized c.grow.ensures.refused
+grow_is g c = told_ok g.S.Space.bytes _ _ _ _ _ _ c.in-Some-block.block _ c.in-Some-block.ensures.value _ c.grow.ensures.resized c.grow.ensures.refused
 
 pub returns-else-is_held-clause-reallocated : goal.returns-else-is_held-clause-reallocated
 returns-else-is_held-clause-reallocated g c = (grow_is g c).reallocated
 
 pub returns-else-is_held-clause-fewest : goal.returns-else-is_held-clause-fewest
 returns-else-is_held-clause-fewest g c =
-    let m = g.S.Space.bytes c.args.space.now in let t : Table = c.args.self.now.table in
-    fewest_law (heap_in t m) (heap_in c.grow.new.self.table (g.S.Space.bytes c.grow.new.space)) c.args.id c.args.size c.args.options (is_ok c.grow.result) (sound_heap t c.in-Some.ensures.sound m c.requires.memory.inside c.reveal_bytes.ensures) (grow_is g c).reallocated
+    let m = g.S.Space.bytes _ in let t = c.args.self.now.table in
+    fewest_law (heap_in t m) (heap_in c.grow.new.self.table (g.S.Space.bytes _)) c.args.id c.args.size c.args.options (is_ok _) (sound_heap t c.in-Some.ensures.sound m c.requires.memory.inside c.reveal_bytes.ensures) (grow_is g c).reallocated
 
 pub returns-else-is_held-clause-placed : goal.returns-else-is_held-clause-placed
 returns-else-is_held-clause-placed g c = (grow_is g c).placed
@@ -156,6 +156,6 @@ returns-else-is_held-clause-refused g c = (grow_is g c).refused
 
 pub returns-else-is_held-clause-written : goal.returns-else-is_held-clause-written
 returns-else-is_held-clause-written g c =
-    let m = g.S.Space.bytes c.args.space.now in let t : Table = c.args.self.now.table in let n = c.args.size in let b = c.in-Some-block.block in
-    let s = size_told t c.in-Some.ensures.sound m c.requires.memory.inside c.args.id b c.in-Some-block.ensures.value in
-    size_written c.grow.result (g.S.Space.written c.args.space.now) (g.S.Space.written c.grow.new.space) c.args.options.zero n b.size (unwrap_or (option_map (length {A = ℕ}) (bytes_at (heap_in t m) c.args.id)) 0) (sym s) c.grow.ensures.written
+    let m = g.S.Space.bytes _ in let t = c.args.self.now.table in let n = c.args.size in let b = c.in-Some-block.block in
+    let s = size_told t c.in-Some.ensures.sound m c.requires.memory.inside _ b c.in-Some-block.ensures.value in
+    size_written _ _ _ _ n b.size _ (sym s) c.grow.ensures.written

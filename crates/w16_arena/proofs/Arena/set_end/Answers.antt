@@ -8,17 +8,17 @@ invariant_of-self g c = kept_later c.self.invariant c.self.view_is c.args.end c.
 pub returns-clause-value : goal.returns-clause-value
 returns-clause-value g c =
     let s = c.self.inside in
-    ap (λ (l : Layout). record { table = table_of s.entries.items l s.order.ids; discarded = s.discarded.items }) c.set_end.ensures.value
+    ap (λ l. record { table = table_of s.entries.items l s.order.ids; discarded = s.discarded.items }) c.set_end.ensures.value
     ∙ ap (λ (a : ArenaState). record a { table = record a.table { hi = c.args.end } }) c.self.view_is
 
 pub returns-clause-sound : goal.returns-clause-sound
 returns-clause-sound g c = (invariant_of-self g c).sound
 
 pub returns-clause-bytes : goal.returns-clause-bytes
-returns-clause-bytes g c = let l = c.set_end.new.self in keeps_holes l.lo l.hi l.blocks c.args.space.now c.set_end.new.space c.set_end.ensures.ordered.laid c.set_end.ensures.rest c.set_end.ensures.written
+returns-clause-bytes g c = let l = c.set_end.new.self in keeps_holes l.lo l.hi _ _ _ c.set_end.ensures.ordered.laid c.set_end.ensures.rest c.set_end.ensures.written
 
 pub returns-clause-heap : goal.returns-clause-heap
 returns-clause-heap g c =
-    let s = c.self.inside in let old = g.S.Space.bytes c.args.space.now in let new = g.S.Space.bytes c.set_end.new.space in
-    heap_kept old new (table_of s.entries.items c.set_end.new.self s.order.ids) (returns-clause-bytes g c).contents
-    ∙ ap (λ (a : ArenaState). heap_in a.table old) (returns-clause-value g c)
+    let s = c.self.inside in let old = g.S.Space.bytes _ in let new = g.S.Space.bytes _ in
+    heap_kept old new (table_of s.entries.items c.set_end.new.self _) (returns-clause-bytes g c).contents
+    ∙ ap (λ a. heap_in a.table old) (returns-clause-value g c)

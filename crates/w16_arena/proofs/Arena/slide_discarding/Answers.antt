@@ -13,12 +13,12 @@ returns g c =
     let discards = rw (found.same, c.unwrap_or.ensures) at c.discard_first.ensures.discards in
     let bytes = c.discard_first.ensures.bytes in
     let p = c.slide_together.ensures in
-    let new = heap_in c.slide_together.new.self.table (g.S.Space.bytes c.slide_together.new.space) in
-    let slides = subst (λ h. SlidesTogether h c.slide_together.result new) (heap_kept m (g.S.Space.bytes c.discard_first.new.space) mid.table bytes.contents) p.slides in
+    let new = heap_in c.slide_together.new.self.table (g.S.Space.bytes _) in
+    let slides = subst (λ h. SlidesTogether h c.slide_together.result new) (heap_kept m (g.S.Space.bytes _) mid.table bytes.contents) p.slides in
     record {
-      compacted = compacts_then c.args.self.now found.sound m c.requires.memory.inside c.args.n c.requires.some c.least_discards-k.result found.value c.order_len.result few mid discards p.room slides;
-      slid = slid_then c.args.self.now found.sound m c.requires.memory.inside c.args.n c.requires.some c.least_discards-k.result found.value c.order_len.result few mid discards p.room slides c.reveal_bytes.ensures;
-      discarded = listed_then c.args.self.now found.sound m c.requires.memory.inside c.args.n c.requires.some c.least_discards-k.result found.value c.order_len.result few mid discards p.discarded;
+      compacted = compacts_then c.args.self.now found.sound m c.requires.memory.inside _ c.requires.some c.least_discards-k.result found.value _ few mid discards p.room slides;
+      slid = slid_then c.args.self.now found.sound m c.requires.memory.inside c.args.n c.requires.some c.least_discards-k.result found.value _ few mid discards p.room slides c.reveal_bytes.ensures;
+      discarded = listed_then c.args.self.now found.sound m c.requires.memory.inside c.args.n c.requires.some c.least_discards-k.result found.value _ few mid discards p.discarded;
       rest = rest_after discards.range bytes.rest p.rest;
-      written = p.written ∙ ap (λ (w : ℕ). counted w c.slide_together.result.moved) bytes.count;
+      written = p.written ∙ ap (λ w. counted w c.slide_together.result.moved) bytes.count;
     }

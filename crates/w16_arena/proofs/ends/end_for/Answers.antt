@@ -12,7 +12,7 @@ returns-then-end-le-LAST_END-clause-grained c = λ grain hi n last. elim c.if-n-
   | then-n-stretch w ↦ subst (IsMultiple grain) (sym w.end-is) hi
   | else-n-stretch+in_ok-stretch+in_ok-checked_add w ↦
       let place = w.in_ok-stretch.field-0 in
-      let at : IsMultiple grain place = subst (λ p. IfSome p (IsMultiple grain)) (w.in_ok-stretch.was) last in
-      let sum : IsMultiple grain w.in_ok-checked_add.field-0 = subst (IsMultiple grain) (sym w.in_ok-checked_add.ensures.1) (multiple_sum grain place c.args.n at n) in
-      subst (IsMultiple grain) (sym w.end-is) (subst (IsMultiple grain) (sym w.max-end.ensures) (multiple_max grain w.in_ok-checked_add.field-0 c.args.hi sum hi))
+      let at = subst (λ p. IfSome p (IsMultiple grain)) (w.in_ok-stretch.was) last in
+      let sum = subst (IsMultiple grain) (sym w.in_ok-checked_add.ensures.1) (multiple_sum grain place _ at n) in
+      subst (IsMultiple grain) (sym w.end-is) (subst (IsMultiple grain) (sym w.max-end.ensures) (multiple_max grain _ _ sum hi))
 ]

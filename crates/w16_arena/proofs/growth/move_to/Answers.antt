@@ -4,10 +4,10 @@ use Rattle.w16_arena.proofs.growth.move_to.Goals as goal
 pub move_grown-requires-clause-fits : goal.move_grown-requires-clause-fits
 move_grown-requires-clause-fits g c =
     let more = c.requires.more in
-    fits_free c.args.blocks.now c.args.block c.requires.known c.bounds.ensures.ordered c.args.size c.args.to (omega arith) c.requires.rounded (free_but c.args.block.id c.args.size c.args.to c.requires.free)
+    fits_free _ c.args.block c.requires.known c.bounds.ensures.ordered _ _ (omega arith) c.requires.rounded (free_but c.args.block.id _ _ c.requires.free)
 
 pub move_grown-requires-clause-apart : goal.move_grown-requires-clause-apart
-move_grown-requires-clause-apart g c = own_apart c.bounds.ensures.ordered c.args.block c.requires.known c.args.size c.args.to c.requires.free
+move_grown-requires-clause-apart g c = own_apart c.bounds.ensures.ordered c.args.block c.requires.known _ _ c.requires.free
 
 pub returns-clause-elsewhere : goal.returns-clause-elsewhere
 returns-clause-elsewhere g c = elsewhere c.bounds.ensures.ordered c.args.block c.requires.known c.args.size c.args.to c.requires.free (let more = c.requires.more in omega arith)

@@ -13,7 +13,7 @@ open-moved-requires-clause-id g c = own_below c.whole_grains-high.ensures.ordere
 pub open-moved-requires-clause-within : goal.open-moved-requires-clause-within
 open-moved-requires-clause-within g c =
     let high = c.whole_grains-high.ensures in
-    subst (λ o. IfSome o (λ (b : Block). (c.args.gap.low ≤ b.at) × (C.block_end b ≤ c.whole_grains-high.result))) (sym c.requires.known)
+    subst (λ o. IfSome o (λ b. (c.args.gap.low ≤ b.at) × (C.block_end b ≤ c.whole_grains-high.result))) (sym c.requires.known)
     (own_within_held high.ordered c.args.block c.requires.known c.requires.more c.requires.rounded c.requires.gap c.requires.own high.below high.last)
 
 pub open-moved-requires-clause-gap : goal.open-moved-requires-clause-gap
@@ -24,7 +24,7 @@ open-moved-requires-clause-gap g c =
 pub find-requires : goal.find-requires
 find-requires g c =
     let bs = (with_loose c.args.block.id c.args.blocks.now).blocks in
-    own_below c.open-moved.ensures.ordered _ (subst (λ o. IfSome o (λ (b : Block). block_with c.open-moved.new.blocks.blocks c.args.block.id ≡ Some (record b { at = c.args.gap.low + loose_bytes bs c.args.gap.low b.at }))) c.requires.known c.open-moved.ensures.place)
+    own_below c.open-moved.ensures.ordered _ (subst (λ o. IfSome o (λ b. block_with c.open-moved.new.blocks.blocks c.args.block.id ≡ Some (record b { at = c.args.gap.low + loose_bytes bs c.args.gap.low b.at }))) c.requires.known c.open-moved.ensures.place)
 
 -- what holds of the block there holds of the one that is given
 module _ (g : Given.Over) (c : After-reveal_bytes g) where
@@ -59,22 +59,22 @@ module _ (g : Given.Over) (c : After-reveal_bytes g) where
 
 pub resize-requires-clause-id : goal.resize-requires-clause-id
 resize-requires-clause-id g c =
-    let d = (goal.at.resize-requires-clause-id g c).After-reveal_bytes in let same = is g d c.in-Some.opened c.in-Some.ensures.value in subst (λ (b : Block). b.id < c.open-moved.new.blocks.cap) (sym same) (own_below c.open-moved.ensures.ordered (there g d) (place g d))
+    let d = (goal.at.resize-requires-clause-id g c).After-reveal_bytes in let same = is g d c.in-Some.opened c.in-Some.ensures.value in subst (λ b. b.id < c.open-moved.new.blocks.cap) (sym same) (own_below c.open-moved.ensures.ordered (there g d) (place g d))
 
 pub resize-requires-clause-fits : goal.resize-requires-clause-fits
 resize-requires-clause-fits g c =
     let d = (goal.at.resize-requires-clause-fits g c).After-reveal_bytes in let same = is g d c.in-Some.opened c.in-Some.ensures.value in
     let more = c.requires.more in
-    subst (λ (b : Block). C.FitsFor c.open-moved.new.blocks (record b { size = c.args.size })) (sym same)
-    (fits_free c.open-moved.new.blocks (there g d) (place g d) c.open-moved.ensures.ordered c.args.size (there g d).at (omega arith) (subst (λ k. C.IsMultiple k c.args.size) (sym (ap (λ (k : Layout). k.grain) (way g d).slid.same)) c.requires.rounded) (way g d).free)
+    subst (λ b. C.FitsFor c.open-moved.new.blocks (record b { size = c.args.size })) (sym same)
+    (fits_free c.open-moved.new.blocks (there g d) (place g d) c.open-moved.ensures.ordered c.args.size (there g d).at (omega arith) (subst (λ k. C.IsMultiple k c.args.size) (sym (ap (λ k. k.grain) (way g d).slid.same)) c.requires.rounded) (way g d).free)
 
 pub returns-clause-grown : goal.returns-clause-grown
 returns-clause-grown g c =
     let d = (goal.at.returns-clause-grown g c).After-reveal_bytes in let same = is g d c.in-Some.opened c.in-Some.ensures.value in
     let e = c.resize.ensures in
-    subst (λ (b : Block). C.HasGrown c.args.size c.args.block c.args.blocks.now (g.S.Space.bytes c.args.space.now) (record (placed g d) { at = b.at }) c.resize.new.blocks (g.S.Space.bytes c.resize.new.space)) (sym same)
-    (grown_there c.args.size c.args.block c.args.blocks.now c.open-moved.new.blocks c.resize.new.blocks (g.S.Space.bytes c.args.space.now) (g.S.Space.bytes c.open-moved.new.space) (g.S.Space.bytes c.resize.new.space) (placed g d) (way g d) c.requires.more
-    (e.value ∙ ap (λ (b : Block). record c.open-moved.new.blocks { blocks = C.replaced (record b { size = c.args.size }) c.open-moved.new.blocks.blocks }) same) e.ordered
-    (subst (λ (b : Block). (m : ℕ) → m ≤ b.size → m ≤ c.args.size → part (g.S.Space.bytes c.resize.new.space) b.at m ≡ part (g.S.Space.bytes c.open-moved.new.space) b.at m) same e.own)
-    (subst (λ (b : Block). C.contents (g.S.Space.bytes c.resize.new.space) (C.all_but b.id c.open-moved.new.blocks.blocks) ≡ C.contents (g.S.Space.bytes c.open-moved.new.space) (C.all_but b.id c.open-moved.new.blocks.blocks)) same e.bytes.contents)
+    subst (λ b. C.HasGrown c.args.size c.args.block c.args.blocks.now (g.S.Space.bytes c.args.space.now) (record (placed g d) { at = b.at }) c.resize.new.blocks (g.S.Space.bytes c.resize.new.space)) (sym same)
+    (grown_there _ _ _ c.open-moved.new.blocks _ _ (g.S.Space.bytes _) _ _ (way g d) c.requires.more
+    (e.value ∙ ap (λ b. record c.open-moved.new.blocks { blocks = C.replaced (record b { size = c.args.size }) c.open-moved.new.blocks.blocks }) same) e.ordered
+    (subst (λ b. (m : ℕ) → m ≤ b.size → m ≤ c.args.size → part (g.S.Space.bytes c.resize.new.space) b.at m ≡ part (g.S.Space.bytes c.open-moved.new.space) b.at m) same e.own)
+    (subst (λ b. C.contents (g.S.Space.bytes c.resize.new.space) (C.all_but b.id c.open-moved.new.blocks.blocks) ≡ C.contents (g.S.Space.bytes c.open-moved.new.space) (C.all_but b.id c.open-moved.new.blocks.blocks)) same e.bytes.contents)
     e.bytes.rest.bytes.long e.small)

@@ -34,7 +34,7 @@ pub nonzero_rem-result : goal.nonzero_rem-result
 nonzero_rem-result g c = some g c
 
 pub returns-clause-grained : goal.returns-clause-grained
-returns-clause-grained g c = subst (λ k. IsMultiple k (c.args.high - c.args.high % c.grain.result)) (sym (same g c)) (whole c.grain.result c.args.high (some g c))
+returns-clause-grained g c = subst (λ k. IsMultiple k (c.args.high - c.args.high % c.grain.result)) (sym (same g c)) (whole _ _ (some g c))
 
 pub returns-clause-last : goal.returns-clause-last
-returns-clause-last g c = λ m is le. last c.grain.result c.args.high (some g c) m (subst (λ k. IsMultiple k m) (same g c) is) le
+returns-clause-last g c = λ m is le. last _ _ (some g c) m (subst (λ k. IsMultiple k m) (same g c) is) le

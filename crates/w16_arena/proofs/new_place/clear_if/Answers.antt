@@ -5,4 +5,4 @@ pub returns-then-asked-clause-rest : goal.returns-then-asked-clause-rest
 returns-then-asked-clause-rest g c =
     let size = length-repeated c.args.size 0 in
     let inside = c.requires in
-    rest_put c.args.at (repeated c.args.size 0) c.fill.ensures.bytes (omega arith) (omega arith) (omega arith)
+    rest_put c.args.at (repeated _ 0) c.fill.ensures.bytes (omega arith) (omega arith) (omega arith)

@@ -8,12 +8,12 @@ nothing None h = refl
 nothing (Some x) h = cc
 
 pub returns-then-is_some-clause-bytes : goal.returns-then-is_some-clause-bytes
-returns-then-is_some-clause-bytes g c = let l = c.remove.new.self in keeps_holes l.lo l.hi l.blocks c.args.space.now c.remove.new.space c.remove.ensures.ordered.laid c.remove.ensures.rest c.remove.ensures.written
+returns-then-is_some-clause-bytes g c = let l = c.remove.new.self in keeps_holes l.lo l.hi _ _ _ c.remove.ensures.ordered.laid c.remove.ensures.rest c.remove.ensures.written
 
 pub returns-else-is_some-clause-bytes : goal.returns-else-is_some-clause-bytes
-returns-else-is_some-clause-bytes g c = keeps_same c.args.blocks.now.lo c.args.blocks.now.hi c.args.blocks.now.blocks c.args.space.now c.requires.memory.kept
+returns-else-is_some-clause-bytes g c = keeps_same _ _ _ _ c.requires.memory.kept
 
 pub returns-else-is_some-clause-value : goal.returns-else-is_some-clause-value
 returns-else-is_some-clause-value g c =
-    let none = without_absent c.args.id c.args.blocks.now.blocks (sym c.find.ensures.value ∙ nothing c.find.result (sym c.is_some.ensures ∙ c.if-is_some.false)) in
+    let none = without_absent _ _ (sym c.find.ensures.value ∙ nothing _ (sym c.is_some.ensures ∙ c.if-is_some.false)) in
     λ i. record c.args.blocks.now { blocks = sym none i }

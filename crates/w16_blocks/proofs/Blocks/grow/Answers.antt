@@ -13,7 +13,7 @@ overflow_sub-self g c = M.counts_more c.self.invariant.0 c.self.inside.slots.ok.
 
 pub invariant_of-self : goal.invariant_of-self
 invariant_of-self g c =
-    (M.BlocksInvariant-more c.self.invariant.0 c.self.inside.slots.ok.0 c.self.view_is c.args.block c.requires.known c.requires.fits c.requires.more c.take.ensures.range c.take.ensures.holes, c.self.invariant.1)
+    (M.BlocksInvariant-more c.self.invariant.0 c.self.inside.slots.ok.0 c.self.view_is _ c.requires.known c.requires.fits c.requires.more c.take.ensures.range c.take.ensures.holes, c.self.invariant.1)
 
 pub returns-clause-value : goal.returns-clause-value
 returns-clause-value g c = M.layout_sized c.self.invariant.0 c.self.inside.slots.ok.0 c.self.view_is c.args.block c.requires.known c.requires.fits
@@ -23,7 +23,7 @@ returns-clause-ordered g c = (invariant_of-self g c).0.tables.ordered
 
 pub returns-clause-rest : goal.returns-clause-rest
 returns-clause-rest g c = record {
-  kept = subst (λ (hs : List Span). g.H.Holes.are_in hs (g.S.Space.bytes c.take.new.space)) (invariant_of-self g c).0.between c.take.ensures.kept;
-  bytes = subst (λ (hs : List Span). AreSameOutside hs (g.S.Space.bytes c.args.space.now) (g.S.Space.bytes c.take.new.space)) (c.self.invariant.0.between ∙ ap holes_of c.self.view_is) c.take.ensures.bytes;
+  kept = subst (λ hs. g.H.Holes.are_in hs (g.S.Space.bytes c.take.new.space)) (invariant_of-self g c).0.between c.take.ensures.kept;
+  bytes = subst (λ hs. AreSameOutside hs (g.S.Space.bytes c.args.space.now) (g.S.Space.bytes c.take.new.space)) (c.self.invariant.0.between ∙ ap holes_of c.self.view_is) c.take.ensures.bytes;
   loans = c.take.ensures.lenders;
 }

@@ -7,27 +7,27 @@ use Rattle.w16_blocks.proofs.Blocks.lift_run.Given as Given
 use Rattle.w16_blocks.proofs.Blocks.lift_run.Goals as goal
 
 pub take-requires-clause-part : goal.take-requires-clause-part
-take-requires-clause-part g c = M.part_entered c.self.invariant.0 c.self.view_is c.requires.run c.requires.some (way_up c.args.self.now c.args.run c.requires.run c.requires.some c.args.to c.min-apart.result c.requires.up.0 c.requires.up.1 c.requires.bare c.requires.grained c.min-apart.ensures)
+take-requires-clause-part g c = M.part_entered c.self.invariant.0 c.self.view_is c.requires.run c.requires.some (way_up _ _ c.requires.run c.requires.some _ _ c.requires.up.0 c.requires.up.1 c.requires.bare c.requires.grained c.min-apart.ensures)
 
 pub take-requires-clause-free : goal.take-requires-clause-free
-take-requires-clause-free g c = M.free_entered c.self.invariant.0 c.self.view_is c.requires.run c.requires.some (way_up c.args.self.now c.args.run c.requires.run c.requires.some c.args.to c.min-apart.result c.requires.up.0 c.requires.up.1 c.requires.bare c.requires.grained c.min-apart.ensures)
+take-requires-clause-free g c = M.free_entered c.self.invariant.0 c.self.view_is c.requires.run c.requires.some (way_up _ _ c.requires.run c.requires.some _ _ c.requires.up.0 c.requires.up.1 c.requires.bare c.requires.grained c.min-apart.ensures)
 
 pub put-requires-clause-kept : goal.put-requires-clause-kept
 put-requires-clause-kept g c =
     g.met.H.Holes.stay _ _ _ c.take.ensures.kept
     (M.same_free c.self.invariant.0 c.self.view_is c.requires.run c.requires.some
-    (way_up c.args.self.now c.args.run c.requires.run c.requires.some c.args.to c.min-apart.result c.requires.up.0
+    (way_up _ _ c.requires.run c.requires.some _ _ c.requires.up.0
     c.requires.up.1 c.requires.bare c.requires.grained c.min-apart.ensures) c.take.ensures.range c.take.ensures.holes
     (let long = c.take.ensures.bytes.long in let inside = c.requires.memory.inside in omega arith) c.slide.ensures.bytes)
 
 pub put-requires-clause-part : goal.put-requires-clause-part
 put-requires-clause-part g c = M.part_left c.self.invariant.0 c.self.view_is c.requires.run c.requires.some
-    (way_up c.args.self.now c.args.run c.requires.run c.requires.some c.args.to c.min-apart.result c.requires.up.0
+    (way_up _ _ c.requires.run c.requires.some _ _ c.requires.up.0
     c.requires.up.1 c.requires.bare c.requires.grained c.min-apart.ensures) c.take.ensures.range c.take.ensures.holes
 
 pub put-requires-clause-used : goal.put-requires-clause-used
 put-requires-clause-used g c = M.used_left c.self.invariant.0 c.self.view_is c.requires.run c.requires.some
-    (way_up c.args.self.now c.args.run c.requires.run c.requires.some c.args.to c.min-apart.result c.requires.up.0
+    (way_up _ _ c.requires.run c.requires.some _ _ c.requires.up.0
     c.requires.up.1 c.requires.bare c.requires.grained c.min-apart.ensures) c.take.ensures.range c.take.ensures.holes
 
 pub put-requires-clause-inside : goal.put-requires-clause-inside
@@ -55,7 +55,7 @@ module _ (g : Given.Over) (c : goal.After-self-3-1 g) where
 pub invariant_of-self : goal.invariant_of-self
 invariant_of-self g c = (
   M.BlocksInvariant-run c.self.invariant.0 c.self.view_is c.requires.run c.requires.some
-      (way_up c.args.self.now c.args.run c.requires.run c.requires.some c.args.to c.min-apart.result c.requires.up.0
+      (way_up _ _ c.requires.run c.requires.some _ _ c.requires.up.0
       c.requires.up.1 c.requires.bare c.requires.grained c.min-apart.ensures) c.take.ensures.range c.take.ensures.holes
       c.put.ensures.range c.put.ensures.holes (tables g c) (blocks g c),
   c.self.invariant.1,
@@ -64,7 +64,7 @@ invariant_of-self g c = (
 pub returns-clause-contents : goal.returns-clause-contents
 returns-clause-contents g c =
     M.come_too c.self.invariant.0 c.self.view_is c.requires.run c.requires.some
-    (way_up c.args.self.now c.args.run c.requires.run c.requires.some c.args.to c.min-apart.result c.requires.up.0
+    (way_up _ _ c.requires.run c.requires.some _ _ c.requires.up.0
     c.requires.up.1 c.requires.bare c.requires.grained c.min-apart.ensures) c.take.ensures.range c.take.ensures.holes
     c.put.ensures.range c.put.ensures.holes (tables g c) (blocks g c) c.requires.memory.inside c.take.ensures.bytes c.slide.ensures.bytes c.put.ensures.bytes
 
@@ -77,15 +77,15 @@ pub returns-clause-ordered : goal.returns-clause-ordered
 returns-clause-ordered g c = (invariant_of-self g c).0.tables.ordered
 
 pub returns-clause-written : goal.returns-clause-written
-returns-clause-written g c = c.put.ensures.written ∙ c.slide.ensures.written ∙ ap (λ (w : ℕ). C.counted w (c.args.run.to - c.args.run.from)) c.take.ensures.written
+returns-clause-written g c = c.put.ensures.written ∙ c.slide.ensures.written ∙ ap (λ w. C.counted w (c.args.run.to - c.args.run.from)) c.take.ensures.written
 
 pub returns-clause-rest : goal.returns-clause-rest
 returns-clause-rest g c = record {
-  kept = subst (λ (hs : List Span). g.H.Holes.are_in hs (g.S.Space.bytes c.put.new.space)) (invariant_of-self g c).0.between c.put.ensures.kept;
+  kept = subst (λ hs. g.H.Holes.are_in hs (g.S.Space.bytes c.put.new.space)) (invariant_of-self g c).0.between c.put.ensures.kept;
   bytes =
-      subst (λ (hs : List Span). C.AreSameBut c.args.to (c.args.run.to - c.args.run.from) (C.holes_of c.args.self.now) hs (g.S.Space.bytes c.args.space.now) (g.S.Space.bytes c.put.new.space)) (invariant_of-self g c).0.between
+      subst (λ hs. C.AreSameBut c.args.to (c.args.run.to - c.args.run.from) (C.holes_of c.args.self.now) hs (g.S.Space.bytes c.args.space.now) (g.S.Space.bytes c.put.new.space)) (invariant_of-self g c).0.between
       (M.others_same c.self.invariant.0 c.self.view_is c.requires.run c.requires.some
-      (way_up c.args.self.now c.args.run c.requires.run c.requires.some c.args.to c.min-apart.result c.requires.up.0
+      (way_up _ _ c.requires.run c.requires.some _ _ c.requires.up.0
       c.requires.up.1 c.requires.bare c.requires.grained c.min-apart.ensures) c.take.ensures.range
       c.take.ensures.holes
       c.put.ensures.range c.put.ensures.holes (tables g c) (blocks g c) c.requires.memory.inside c.take.ensures.bytes c.slide.ensures.bytes c.put.ensures.bytes);

@@ -6,7 +6,7 @@ use proofs.Outside.{part_inside}
 use Rattle.w16_blocks.proofs.Blocks.move_grown.Goals as goal
 
 pub returns-clause-written : goal.returns-clause-written
-returns-clause-written g c = c.put.ensures.written ∙ c.slide.ensures.written ∙ ap (λ (w : ℕ). counted w c.args.block.size) c.take.ensures.written
+returns-clause-written g c = c.put.ensures.written ∙ c.slide.ensures.written ∙ ap (λ w. counted w c.args.block.size) c.take.ensures.written
 
 pub unit_of-from_unit-requires-clause-from : goal.unit_of-from_unit-requires-clause-from
 unit_of-from_unit-requires-clause-from g c = (lies_in c.self.invariant.0 c.self.inside.slots.ok.0 c.self.view_is c.args.block.id c.requires.known).0
@@ -49,14 +49,14 @@ overflow_sub-self-2 g c = M.counts_more c.self.invariant.0 c.self.inside.slots.o
 pub invariant_of-self : goal.invariant_of-self
 invariant_of-self g c = (
   M.BlocksInvariant-grown c.self.invariant.0 c.self.inside.slots.ok.0 c.self.view_is c.args.block c.requires.known c.requires.more c.requires.fits c.requires.apart
-      c.take.ensures.range c.take.ensures.holes c.put.ensures.range c.put.ensures.holes c.unit_of-from_unit.result c.unit_of-to_unit.result c.unit_of-from_unit.ensures c.unit_of-to_unit.ensures (add-one c.args.block.id),
+      c.take.ensures.range c.take.ensures.holes c.put.ensures.range c.put.ensures.holes _ _ c.unit_of-from_unit.ensures c.unit_of-to_unit.ensures (add-one _),
   c.self.invariant.1,
 )
 
 pub returns-clause-value : goal.returns-clause-value
 returns-clause-value g c =
     M.layout_grown c.self.invariant.0 c.self.inside.slots.ok.0 c.self.view_is c.args.block c.requires.known c.requires.more c.requires.fits c.requires.apart
-    c.take.ensures.range c.take.ensures.holes c.put.ensures.range c.put.ensures.holes c.unit_of-from_unit.result c.unit_of-to_unit.result c.unit_of-from_unit.ensures c.unit_of-to_unit.ensures (add-one c.args.block.id)
+    c.take.ensures.range c.take.ensures.holes c.put.ensures.range c.put.ensures.holes c.unit_of-from_unit.result c.unit_of-to_unit.result c.unit_of-from_unit.ensures c.unit_of-to_unit.ensures (add-one _)
 
 pub returns-clause-ordered : goal.returns-clause-ordered
 returns-clause-ordered g c = (invariant_of-self g c).0.tables.ordered
@@ -68,9 +68,9 @@ returns-clause-contents g c =
 
 pub returns-clause-rest : goal.returns-clause-rest
 returns-clause-rest g c = record {
-  kept = subst (λ (hs : List Span). g.H.Holes.are_in hs (g.S.Space.bytes c.put.new.space)) (invariant_of-self g c).0.between c.put.ensures.kept;
+  kept = subst (λ hs. g.H.Holes.are_in hs (g.S.Space.bytes c.put.new.space)) (invariant_of-self g c).0.between c.put.ensures.kept;
   bytes =
-      subst (λ (hs : List Span). AreSameOutsideBoth (holes_of c.args.self.now) hs (g.S.Space.bytes c.args.space.now) (g.S.Space.bytes c.put.new.space)) (invariant_of-self g c).0.between
+      subst (λ hs. AreSameOutsideBoth (holes_of c.args.self.now) hs (g.S.Space.bytes c.args.space.now) (g.S.Space.bytes c.put.new.space)) (invariant_of-self g c).0.between
       (M.others_same c.self.invariant.0 c.self.inside.slots.ok.0 c.self.view_is c.args.block c.requires.known c.requires.more c.requires.fits c.requires.apart
       c.take.ensures.range c.take.ensures.holes c.put.ensures.range c.put.ensures.holes c.requires.memory.inside c.take.ensures.bytes c.slide.ensures.bytes c.put.ensures.bytes);
   loans = c.put.ensures.lenders ∙ c.slide.ensures.lenders ∙ c.take.ensures.lenders;

@@ -17,7 +17,7 @@ put-requires-clause-used g c = M.used_kept c.self.invariant.0 c.self.inside.slot
 pub put-requires-clause-inside : goal.put-requires-clause-inside
 put-requires-clause-inside g c =
     let end = (M.lies_in c.self.invariant.0 c.self.inside.slots.ok.0 c.self.view_is c.args.id c.block_of-block.ensures.known).2 in
-    let top = ap (λ (l : Layout). l.hi) c.self.view_is in
+    let top = ap (λ l. l.hi) c.self.view_is in
     let inside = c.requires.memory.inside in omega arith
 
 pub index_mut-requires-2 : goal.index_mut-requires-2
@@ -33,7 +33,7 @@ overflow_sub-self g c =
     let le = M.pins_below c.self.invariant.0 c.self.inside.slots.ok.0 c.self.view_is c.args.id c.block_of-block.ensures.known in let one = c.pins_of.ensures in omega arith
 
 pub invariant_of-self : goal.invariant_of-self
-invariant_of-self g c = (M.BlocksInvariant-drop c.self.invariant.0 c.self.inside.slots.ok.0 c.self.view_is c.args.id c.block_of-block.ensures.known c.unit_of-unit.result c.unit_of-unit.ensures c.pins_of.ensures c.put.ensures.range c.put.ensures.holes, c.self.invariant.1)
+invariant_of-self g c = (M.BlocksInvariant-drop c.self.invariant.0 c.self.inside.slots.ok.0 c.self.view_is _ c.block_of-block.ensures.known _ c.unit_of-unit.ensures c.pins_of.ensures c.put.ensures.range c.put.ensures.holes, c.self.invariant.1)
 
 pub returns-clause-value : goal.returns-clause-value
 returns-clause-value g c = M.layout_dropped c.self.invariant.0 c.self.inside.slots.ok.0 c.self.view_is c.args.id c.block_of-block.ensures.known c.unit_of-unit.result c.unit_of-unit.ensures
@@ -43,5 +43,5 @@ returns-clause-ordered g c = (invariant_of-self g c).0.tables.ordered
 
 pub returns-clause-rest : goal.returns-clause-rest
 returns-clause-rest g c =
-    subst (λ (hs : List Span). Leaves g.H.Holes.are_in g.S.Space.bytes g.S.Space.lenders hs (AreSameOutside hs) c.args.space.now c.put.new.space) (invariant_of-self g c).0.between
+    subst (λ hs. Leaves g.H.Holes.are_in g.S.Space.bytes g.S.Space.lenders hs (AreSameOutside hs) c.args.space.now c.put.new.space) (invariant_of-self g c).0.between
     (record { kept = c.put.ensures.kept; bytes = c.put.ensures.bytes; loans = c.put.ensures.lenders })

@@ -3,7 +3,7 @@ use Rattle.w16_blocks.proofs.{Rising.run_before, Rising.none_ends, Rising.none_e
 use Rattle.w16_blocks.proofs.Blocks.run_begin.Goals as goal
 
 pub returns-in_default-clause-first : goal.returns-in_default-clause-first
-returns-in_default-clause-first g c = inr (none_ends_low c.args.self.now c.loop-begin.begin c.in_default.ensures.ordered c.in_default.ensures.value)
+returns-in_default-clause-first g c = inr (none_ends_low c.args.self.now _ c.in_default.ensures.ordered c.in_default.ensures.value)
 
 pub overflow_add-block : goal.overflow_add-block
 overflow_add-block g c =
@@ -12,7 +12,7 @@ overflow_add-block g c =
     record { fits = omega arith }
 
 pub returns-then-block-begin-clause-first : goal.returns-then-block-begin-clause-first
-returns-then-block-begin-clause-first g c = inr (none_ends c.args.self.now c.loop-begin.begin c.in-Some.block c.in-Some.ensures.ordered c.in-Some.ensures.value c.if-block-begin.true)
+returns-then-block-begin-clause-first g c = inr (none_ends c.args.self.now _ c.in-Some.block c.in-Some.ensures.ordered c.in-Some.ensures.value c.if-block-begin.true)
 
 pub loop-begin-preserved : goal.loop-begin-preserved
 loop-begin-preserved g c =
@@ -23,7 +23,7 @@ loop-begin-preserved g c =
       | inr over ↦ absurd (omega arith)
     ] in
     record {
-      run = run_before l c.loop-begin.begin c.args.to x c.in-Some.ensures.ordered is.known ends inv.run;
+      run = run_before l _ _ x c.in-Some.ensures.ordered is.known ends inv.run;
       low = elim (each_with (λ b. (block_end b ≤ c.args.low) ⊎ (c.args.low ≤ b.at)) x.id x l.blocks is.known c.requires.whole.0) [
         | inl under ↦ absurd (omega arith)
         | inr over ↦ over

@@ -16,7 +16,7 @@ overflow_add-end g c =
 
 pub loop-end-smaller : goal.loop-end-smaller
 loop-end-smaller g c =
-    let known = known_by c.in-Some.block c.self.view_is c.deref.ensures.value c.deref-in-loop-end.ensures.value c.in-Some.ensures.1 in
+    let known = known_by _ c.self.view_is c.deref.ensures.value c.deref-in-loop-end.ensures.value c.in-Some.ensures.1 in
     let some = (lies c.args.self.now c.in-Some.block.id c.in-Some.block known c.bounds-bounds.ensures.ordered).1 in let lt = c.loop-end-test.true in omega arith
 
 pub loop-end-preserved : goal.loop-end-preserved

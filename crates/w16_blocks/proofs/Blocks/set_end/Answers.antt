@@ -4,10 +4,10 @@ use Rattle.w16_blocks.proofs.Blocks.set_end.Goals as goal
 use Rattle.w16_blocks.proofs.Blocks.set_end.Goals.{After-lengthen-then-from-end}
 
 pub put-requires-clause-part : goal.put-requires-clause-part
-put-requires-clause-part g c = M.part_later c.self.invariant.0 c.args.end c.if-from-end.true c.set_end.ensures.range c.self.view_is c.requires.low c.requires.high
+put-requires-clause-part g c = M.part_later c.self.invariant.0 _ c.if-from-end.true c.set_end.ensures.range c.self.view_is c.requires.low c.requires.high
 
 pub put-requires-clause-used : goal.put-requires-clause-used
-put-requires-clause-used g c = M.used_later c.self.invariant.0 c.args.end c.if-from-end.true c.set_end.ensures.range c.set_end.ensures.holes
+put-requires-clause-used g c = M.used_later c.self.invariant.0 _ c.if-from-end.true c.set_end.ensures.range c.set_end.ensures.holes
 
 pub lengthen-requires : goal.lengthen-requires
 lengthen-requires g c = let r = c.requires.reserved in M.cells_fit c.self.invariant.0.tables.some c.cells_to-cells.ensures (omega arith) c.self.invariant.1.begins
@@ -24,7 +24,7 @@ module _ (g : _) (c : After-lengthen-then-from-end g) where
 pub invariant_of-self : goal.invariant_of-self
 invariant_of-self g c = (
   M.BlocksInvariant-later c.self.invariant.0 c.args.end c.if-from-end.true (c.put.ensures.range ∙ c.set_end.ensures.range) (longer g (goal.at.invariant_of-self g c).After-lengthen-then-from-end) c.requires.reserved
-      (c.put.ensures.holes ∙ ap (joined c.self.inside.hi (c.self.inside.hi + (c.args.end - c.self.inside.hi))) c.set_end.ensures.holes),
+      (c.put.ensures.holes ∙ ap (joined _ _) c.set_end.ensures.holes),
   M.AreReserved-more c.self.invariant.1 c.lengthen.ensures.capacity c.lengthen-then-from-end.ensures.capacity,
 )
 
@@ -36,5 +36,5 @@ returns-then-from-end-clause-ordered g c = (invariant_of-self g c).0.tables.orde
 
 pub returns-then-from-end-clause-rest : goal.returns-then-from-end-clause-rest
 returns-then-from-end-clause-rest g c =
-    subst (λ (hs : List Span). Leaves g.H.Holes.are_in g.S.Space.bytes g.S.Space.lenders hs (AreSameOutside hs) c.args.space.now c.put.new.space) (invariant_of-self g c).0.between
+    subst (λ hs. Leaves g.H.Holes.are_in g.S.Space.bytes g.S.Space.lenders hs (AreSameOutside hs) c.args.space.now c.put.new.space) (invariant_of-self g c).0.between
     (record { kept = c.put.ensures.kept; bytes = c.put.ensures.bytes; loans = c.put.ensures.lenders })

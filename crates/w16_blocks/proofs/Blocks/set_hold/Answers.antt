@@ -21,8 +21,8 @@ invariant_of-self g c = (
 pub returns-clause-value : goal.returns-clause-value
 returns-clause-value g c =
     let s = c.self.inside in let l = c.args.self.now in
-    let Told : Block → Type 0 = λ b. layout_in s.slots.len s.lo s.hi s.grain (set s.slots.items c.args.id (record c.block_of-block.result { hold = c.args.hold })) s.begins.items ≡ record l { blocks = replaced (record b { hold = c.args.hold }) l.blocks } in
-    subst (λ (o : Option Block). IfSome o Told) (sym c.block_of-block.ensures.known) (layout_held c.self.invariant.0 s.slots.ok.0 c.self.view_is c.args.id c.requires.id c.block_of-block.ensures.known c.args.hold)
+    let Told : Block → Type 0 = λ b. layout_in _ s.lo s.hi s.grain (set s.slots.items c.args.id (record c.block_of-block.result { hold = c.args.hold })) s.begins.items ≡ record l { blocks = replaced (record b { hold = c.args.hold }) l.blocks } in
+    subst (λ o. IfSome o Told) (sym c.block_of-block.ensures.known) (layout_held c.self.invariant.0 s.slots.ok.0 c.self.view_is c.args.id c.requires.id c.block_of-block.ensures.known c.args.hold)
 
 pub returns-clause-ordered : goal.returns-clause-ordered
 returns-clause-ordered g c = (invariant_of-self g c).0.tables.ordered

@@ -11,7 +11,7 @@ put-requires-clause-used g c = M.used_put c.self.invariant.0 c.self.inside.slots
 pub put-requires-clause-inside : goal.put-requires-clause-inside
 put-requires-clause-inside g c =
     let end = (M.lies_in c.self.invariant.0 c.self.inside.slots.ok.0 c.self.view_is c.args.block.id c.requires.known).2 in
-    let top = ap (λ (l : Layout). l.hi) c.self.view_is in
+    let top = ap (λ l. l.hi) c.self.view_is in
     let less = c.requires.less in
     let inside = c.requires.memory.inside in omega arith
 
@@ -21,7 +21,7 @@ overflow_add-self g c =
 
 pub invariant_of-self : goal.invariant_of-self
 invariant_of-self g c =
-    (M.BlocksInvariant-less c.self.invariant.0 c.self.inside.slots.ok.0 c.self.view_is c.args.block c.requires.known c.requires.fits c.requires.less c.put.ensures.range c.put.ensures.holes, c.self.invariant.1)
+    (M.BlocksInvariant-less c.self.invariant.0 c.self.inside.slots.ok.0 c.self.view_is _ c.requires.known c.requires.fits c.requires.less c.put.ensures.range c.put.ensures.holes, c.self.invariant.1)
 
 pub returns-clause-value : goal.returns-clause-value
 returns-clause-value g c = M.layout_sized c.self.invariant.0 c.self.inside.slots.ok.0 c.self.view_is c.args.block c.requires.known c.requires.fits
@@ -31,5 +31,5 @@ returns-clause-ordered g c = (invariant_of-self g c).0.tables.ordered
 
 pub returns-clause-rest : goal.returns-clause-rest
 returns-clause-rest g c =
-    subst (λ (hs : List Span). Leaves g.H.Holes.are_in g.S.Space.bytes g.S.Space.lenders hs (AreSameOutside hs) c.args.space.now c.put.new.space) (invariant_of-self g c).0.between
+    subst (λ hs. Leaves g.H.Holes.are_in g.S.Space.bytes g.S.Space.lenders hs (AreSameOutside hs) c.args.space.now c.put.new.space) (invariant_of-self g c).0.between
     (record { kept = c.put.ensures.kept; bytes = c.put.ensures.bytes; loans = c.put.ensures.lenders })

@@ -14,9 +14,9 @@ found : {m l : Layout} → m ≡ l → {from end high to : ℕ} → IsRun m (rec
     → C.IsBare to from l.blocks → IsRun l (record { from = from; to = end }) × (from < end) × IsWay l (record { from = from; to = end }) to to (end - min (end - from) (from - to)) (min (end - from) (from - to))
 found {m} {l} same {from} {end} {high} {to} told last part grained begins bare =
     let run : Span = record { from = from; to = end } in
-    let is = subst (λ (k : Layout). IsRun k run) same told in
-    let some = has_bytes l.blocks from high end part.2 is.inside.1 (subst (λ (k : Layout). EndsAt k high end) same last) begins in
-    (is, some, way_down l run is some to (min (end - from) (from - to)) part.1 part.0 bare grained refl)
+    let is = subst (λ k. IsRun k run) same told in
+    let some = has_bytes _ from high end part.2 is.inside.1 (subst (λ k. EndsAt k high end) same last) begins in
+    (is, some, way_down l run is some to _ part.1 part.0 bare grained refl)
 
 module _ (g : Given.Over) (c : After-retag_run-end g) where
   abbrev run : Span
@@ -52,17 +52,17 @@ module _ (g : Given.Over) (c : After-retag_run-end g) where
 pub slide_down-requires-clause-new : goal.slide_down-requires-clause-new
 slide_down-requires-clause-new g c =
     let w = way g (goal.at.slide_down-requires-clause-new g c).After-retag_run-end in let r = c.requires in
-    subst (λ (r : Range). C.IsPart r c.args.to (c.retag_run-end.result - c.args.within.from)) (sym (c.self.invariant.0.ranged ∙ ap C.range_of c.self.view_is)) (run_part c.args.self.now _ w.0 w.1 c.args.to r.part.0 w.2.high r.grained.1)
+    subst (λ r. C.IsPart r c.args.to (c.retag_run-end.result - c.args.within.from)) (sym (c.self.invariant.0.ranged ∙ ap C.range_of c.self.view_is)) (run_part _ _ w.0 w.1 _ r.part.0 w.2.high r.grained.1)
 
 pub slide_down-requires-clause-old : goal.slide_down-requires-clause-old
 slide_down-requires-clause-old g c =
     let w = way g (goal.at.slide_down-requires-clause-old g c).After-retag_run-end in let low = w.0.inside.0 in let top = w.0.inside.2 in
-    subst (λ (r : Range). C.IsPart r c.args.within.from (c.retag_run-end.result - c.args.within.from)) (sym (c.self.invariant.0.ranged ∙ ap C.range_of c.self.view_is)) (run_part c.args.self.now _ w.0 w.1 c.args.within.from low (omega arith) w.0.grained.0)
+    subst (λ r. C.IsPart r c.args.within.from (c.retag_run-end.result - c.args.within.from)) (sym (c.self.invariant.0.ranged ∙ ap C.range_of c.self.view_is)) (run_part _ _ w.0 w.1 _ low (omega arith) w.0.grained.0)
 
 pub slide_down-requires-clause-free : goal.slide_down-requires-clause-free
 slide_down-requires-clause-free g c =
     let r = c.requires in let one = r.part.0 in let three = r.part.2 in let four = r.part.3 in let ordered = c.self.invariant.0.tables.ordered in
-    subst (C.IsFree c.args.to c.args.within.from) (sym (c.self.invariant.0.between ∙ ap holes_of c.self.view_is)) (bare_free c.args.self.now (subst C.IsOrdered c.self.view_is ordered) c.args.to c.args.within.from one r.part.1 (omega arith) r.bare)
+    subst (C.IsFree _ _) (sym (c.self.invariant.0.between ∙ ap holes_of c.self.view_is)) (bare_free c.args.self.now (subst C.IsOrdered c.self.view_is ordered) _ _ one r.part.1 (omega arith) r.bare)
 
 pub slide_down-requires-clause-used : goal.slide_down-requires-clause-used
 slide_down-requires-clause-used g c =
@@ -90,7 +90,7 @@ pub returns-clause-some : goal.returns-clause-some
 returns-clause-some g c = (way g (goal.at.returns-clause-some g c).After-retag_run-end).1
 
 pub returns-clause-last : goal.returns-clause-last
-returns-clause-last g c = subst (λ (l : Layout). EndsAt l c.args.within.to c.retag_run-end.result) (same g (goal.at.returns-clause-last g c).After-retag_run-end) c.retag_run-end.ensures.last
+returns-clause-last g c = subst (λ l. EndsAt l c.args.within.to c.retag_run-end.result) (same g (goal.at.returns-clause-last g c).After-retag_run-end) c.retag_run-end.ensures.last
 
 pub returns-clause-value : goal.returns-clause-value
 returns-clause-value g c =
@@ -102,10 +102,10 @@ returns-clause-ordered g c = (invariant_of-self g c).0.tables.ordered
 
 pub returns-clause-rest : goal.returns-clause-rest
 returns-clause-rest g c = record {
-  kept = subst (λ (hs : List Span). g.H.Holes.are_in hs (g.S.Space.bytes c.slide_down.new.space)) (invariant_of-self g c).0.between c.slide_down.ensures.kept;
+  kept = subst (λ hs. g.H.Holes.are_in hs (g.S.Space.bytes c.slide_down.new.space)) (invariant_of-self g c).0.between c.slide_down.ensures.kept;
   bytes =
       let n = c.retag_run-end.result - c.args.within.from in
-      subst (λ (hs : List Span). C.AreSameBut c.args.to n (holes_of c.args.self.now) hs (g.S.Space.bytes c.args.space.now) (g.S.Space.bytes c.slide_down.new.space)) (invariant_of-self g c).0.between
-      (subst (λ (hs : List Span). C.AreSameBut c.args.to n hs (g.H.HoleList.holes c.slide_down.new.self) (g.S.Space.bytes c.args.space.now) (g.S.Space.bytes c.slide_down.new.space)) (c.self.invariant.0.between ∙ ap holes_of c.self.view_is) c.slide_down.ensures.bytes);
+      subst (λ hs. C.AreSameBut c.args.to n (holes_of c.args.self.now) hs (g.S.Space.bytes c.args.space.now) (g.S.Space.bytes c.slide_down.new.space)) (invariant_of-self g c).0.between
+      (subst (λ hs. C.AreSameBut c.args.to n hs (g.H.HoleList.holes c.slide_down.new.self) (g.S.Space.bytes c.args.space.now) (g.S.Space.bytes c.slide_down.new.space)) (c.self.invariant.0.between ∙ ap holes_of c.self.view_is) c.slide_down.ensures.bytes);
   loans = c.slide_down.ensures.lenders;
 }

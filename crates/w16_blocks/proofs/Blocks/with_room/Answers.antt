@@ -35,18 +35,18 @@ invariant_of-result g c =
     let ends = c.in_ok-ends.ensures.capacity in let more_ends = c.lengthen-2.ensures.capacity in (
       record {
         tables = AreTables-none (clear g c) (no_blocks g c) c.requires.some (omega arith) (omega arith) le c.requires.grained (long g c);
-        counted = let none : sum_by (λ (b : Block). b.size) (C.blocks_in c.in_ok-slots.slots.items c.lengthen.new.table.items) ≡ 0 = ap (sum_by (λ (b : Block). b.size)) (told g c) in omega arith;
-        pins = sym (ap (sum_by C.pins_in) (told g c));
+        counted = let none : sum_by (λ b. b.size) (C.blocks_in c.in_ok-slots.slots.items c.lengthen.new.table.items) ≡ 0 = ap (sum_by (λ b. b.size)) (told g c) in omega arith;
+        pins = sym (ap (sum_by _) (told g c));
         ranged = c.requires.range;
         between = c.requires.whole ∙ ap (holes c.args.lo c.args.hi) (sym (told g c));
       },
       record {
-        begins = cells_reserved (C.LAST_END - c.args.lo) (c.max.result - c.args.lo) c.requires.some c.cells_to-most.ensures (omega arith) (omega arith);
-        ends = cells_reserved (C.LAST_END - c.args.lo) (c.max.result - c.args.lo) c.requires.some c.cells_to-most.ensures (omega arith) (omega arith);
+        begins = cells_reserved _ (c.max.result - c.args.lo) c.requires.some c.cells_to-most.ensures (omega arith) (omega arith);
+        ends = cells_reserved _ (c.max.result - c.args.lo) c.requires.some c.cells_to-most.ensures (omega arith) (omega arith);
       },
     )
 
 pub returns : goal.returns
 returns g c =
-    ap (λ (n : ℕ). C.layout_in n c.args.lo c.args.hi c.args.grain c.in_ok-slots.slots.items c.lengthen.new.table.items) c.in_ok-slots.ensures.len
-    ∙ ap (λ (bs : List Block). record { cap = c.args.cap; lo = c.args.lo; hi = c.args.hi; grain = c.args.grain; blocks = bs }) (told g c)
+    ap (λ n. C.layout_in n c.args.lo c.args.hi c.args.grain c.in_ok-slots.slots.items c.lengthen.new.table.items) c.in_ok-slots.ensures.len
+    ∙ ap (λ bs. record { cap = c.args.cap; lo = c.args.lo; hi = c.args.hi; grain = c.args.grain; blocks = bs }) (told g c)

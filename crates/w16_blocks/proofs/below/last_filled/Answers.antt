@@ -6,15 +6,15 @@ eight_more : (begins cells : List ℕ) (end : ℕ) → end ≤ length begins →
     → (k : ℕ) → end - 8 ≤ k → k < end → slice_index begins k ≡ 0
 eight_more begins cells end le more is blank k from lt =
     let here : end - 8 + (k - (end - 8)) ≡ k = omega arith in
-    let long : length (take end begins) ≡ end = length-take-le end begins le in
-    let cut : cells ≡ drop (end - 8) (take end begins) = is ∙ ap (λ (n : ℕ). drop (n - 8) (take end begins)) long in
-    let there : slice_index (drop (end - 8) (take end begins)) (k - (end - 8)) ≡ slice_index (take end begins) k = get_or-drop (end - 8) (take end begins) (k - (end - 8)) 0 ∙ ap (λ (n : ℕ). slice_index (take end begins) n) here in
-    sym (get_or-take end begins k 0 lt) ∙ sym there ∙ sym (ap (λ (l : List ℕ). slice_index l (k - (end - 8))) cut) ∙ blank (k - (end - 8)) (omega arith)
+    let long = length-take-le end begins le in
+    let cut = is ∙ ap (λ n. drop (n - 8) (take end begins)) long in
+    let there = get_or-drop (end - 8) (take end begins) (k - (end - 8)) 0 ∙ ap (λ n. slice_index (take end begins) n) here in
+    sym (get_or-take end begins k 0 lt) ∙ sym there ∙ sym (ap (λ l. slice_index l (k - (end - 8))) cut) ∙ blank _ (omega arith)
 
 pub together-preserved : goal.together-preserved
 together-preserved c =
     let le = c.together.invariant.within in
-    let long : length (take c.together.end c.args.begins.now) ≡ c.together.end = length-take-le c.together.end c.args.begins.now (let r = c.requires in omega arith) in
+    let long = length-take-le c.together.end c.args.begins.now (let r = c.requires in omega arith) in
     let more : 8 ≤ c.together.end = let e = c.in-Some.ensures.cases.2 in omega arith in
     record {
       within = omega arith;

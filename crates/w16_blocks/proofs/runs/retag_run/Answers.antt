@@ -11,7 +11,7 @@ loop-at-init c =
     let low = c.requires.inside.0 in let down = c.requires.inside.1 in let up = c.requires.inside.2 in let high = c.requires.inside.3 in
     record {
       tables = c.requires.tables;
-      slid = sym (M.slid_none c.args.within.from c.args.to blocks);
+      slid = sym (M.slid_none _ _ blocks);
       ready = M.ready_start c.args.within c.args.to blocks c.requires.bare c.requires.whole.1;
       run = record {
         inside = (omega arith, omega arith, omega arith);
@@ -96,14 +96,14 @@ loop-at-smaller c =
 pub loop-at-preserved : goal.loop-at-preserved
 loop-at-preserved c =
     let inv = c.loop-at.invariant in let part = c.args.within in let at = c.loop-at.at in let u = c.unit_of-unit.result in let is = c.unit_of-unit.ensures in let tells = c.if-begin-eq0.false in
-    let down = c.requires.inside.1 in let lt = c.loop-at-test.true in let block = get_or c.loop-at.slots (slice_index c.loop-at.begins u - 1) blank in let begins = here inv.tables inv.slots down inv.from lt inv.ready u is tells in
-    let old = layout_in (length c.args.slots.now) c.args.bounds.from c.args.bounds.to c.args.grain c.args.slots.now c.args.begins.now in
+    let down = c.requires.inside.1 in let lt = c.loop-at-test.true in let block = get_or c.loop-at.slots (slice_index _ u - 1) blank in let begins = here inv.tables inv.slots down inv.from lt inv.ready u is tells in
+    let old = layout_in _ _ _ _ c.args.slots.now c.args.begins.now in
     let new = sym c.retag.ensures.blocks in
     record {
-      tables = subst (λ (n : ℕ). C.AreTables n c.args.bounds.from c.args.bounds.to c.args.grain c.retag.new.slots c.retag.new.begins) inv.slots c.retag.ensures.tables;
-      slid = c.retag.ensures.blocks ∙ slid inv.tables inv.slots down inv.from lt inv.ready u is tells old.blocks inv.slid;
-      ready = subst (AllByRecursion (IsReady part c.args.to (at + block.size))) new (ready' inv.tables inv.slots down inv.from lt inv.ready u is tells);
-      run = M.run_more old part.from at block c.requires.tables.ordered (unslid part.from at c.args.to block old.blocks _ down inv.from (omega arith) inv.slid (known inv.tables inv.slots down inv.from lt inv.ready u is tells)) begins inv.run;
+      tables = subst (λ n. C.AreTables n c.args.bounds.from c.args.bounds.to c.args.grain c.retag.new.slots c.retag.new.begins) inv.slots c.retag.ensures.tables;
+      slid = c.retag.ensures.blocks ∙ slid inv.tables inv.slots down inv.from lt inv.ready u is tells _ inv.slid;
+      ready = subst (AllByRecursion _) new (ready' inv.tables inv.slots down inv.from lt inv.ready u is tells);
+      run = M.run_more old _ at block c.requires.tables.ordered (unslid _ at _ block _ _ down inv.from (omega arith) inv.slid (known inv.tables inv.slots down inv.from lt inv.ready u is tells)) begins inv.run;
       from = let start = inv.from in omega arith;
       end = ends inv.tables inv.slots down inv.from lt inv.ready u is tells;
       slots = c.retag.ensures.slots ∙ inv.slots;
@@ -113,7 +113,7 @@ loop-at-preserved c =
 pub returns-then-begin-eq0-clause-last : goal.returns-then-begin-eq0-clause-last
 returns-then-begin-eq0-clause-last c =
     let inv = c.loop-at.invariant in
-    inr (none_unslid (layout_in (length c.args.slots.now) c.args.bounds.from c.args.bounds.to c.args.grain c.args.slots.now c.args.begins.now) c.requires.tables.ordered c.args.within.from c.loop-at.at c.args.to c.requires.inside.1 inv.from
+    inr (none_unslid (layout_in _ _ _ _ c.args.slots.now c.args.begins.now) c.requires.tables.ordered _ _ _ c.requires.inside.1 inv.from
     (subst (AllByRecursion (λ b. b.at ≢ c.loop-at.at)) inv.slid (none_at inv.tables c.unit_of-unit.result c.unit_of-unit.ensures c.if-begin-eq0.true)))
 
 pub returns-clause-last : goal.returns-clause-last

@@ -9,10 +9,10 @@ pub loop-block-init : goal.loop-block-init
 loop-block-init g c =
     let l = c.args.blocks.now in let it = c.into_iter-block-iterator.result in let h = c.args.h in
     let is = c.into_iter-block-iterator.ensures.into_iter_gives in
-    let same : it.blocks.now ≡ l = ap (λ x. x.blocks.now) is ∙ c.by_address-block-items.ensures.blocks in
-    let space : it.space.now ≡ c.args.space.now = ap (λ x. x.space.now) is ∙ c.by_address-block-items.ensures.space in
-    let first : it.from ≡ 0 = ap (λ x. x.from) is ∙ c.by_address-block-items.ensures.from in
-    let low = ap (λ (s : Span). s.from) c.bounds-bounds.ensures.value in
+    let same = ap (λ x. x.blocks.now) is ∙ c.by_address-block-items.ensures.blocks in
+    let space = ap (λ x. x.space.now) is ∙ c.by_address-block-items.ensures.space in
+    let first = ap (λ x. x.from) is ∙ c.by_address-block-items.ensures.from in
+    let low = ap (λ s. s.from) c.bounds-bounds.ensures.value in
     let left = all_left l it.blocks.now it.from same first in
     record {
       may = may_begin g.H.Holes.are_in l it.blocks.now (g.S.Space.bytes c.args.space.now) (g.S.Space.bytes it.space.now) same (ap g.S.Space.bytes space) c.requires.kept;
@@ -20,7 +20,7 @@ loop-block-init g c =
       passed = (
         0,
         left,
-        subst (λ (s : Span). M.IsPassed (λ x. not (is_about h x.id)) l.hi l.blocks (room l.lo l.hi (filter (λ x. not (is_about h x.id)) l.blocks)) 0 0 s.from 0) (sym c.bounds-bounds.ensures.value)
+        subst (λ s. M.IsPassed (λ x. not (is_about h x.id)) l.hi l.blocks (room l.lo l.hi (filter (λ x. not (is_about h x.id)) l.blocks)) 0 0 s.from 0) (sym c.bounds-bounds.ensures.value)
             (M.passed_start (λ x. not (is_about h x.id)) l.lo l.hi l.blocks c.bounds-bounds.ensures.ordered.laid),
       );
       filled = subst (IsFilled (λ x. not (is_about h x.id)) l.lo l.hi l.cap l.blocks c.cap-gap.result c.bounds-bounds.result.from 0 c.args.gap_of.now c.args.rooms.now) left
@@ -94,19 +94,19 @@ loop-block-preserved g c =
 pub returns-clause-value : goal.returns-clause-value
 returns-clause-value g c =
     let l = c.args.blocks.now in let now = c.loop-block.invariant in let r = c.loop-block.reached in
-    let to : c.bounds-bounds.result.to ≡ l.hi = ap (λ (s : Span). s.to) c.bounds-bounds.ensures.value in
-    let last : c.room_to-room-2.result ≡ l.hi - r.low - r.loose = c.room_to-room-2.ensures ∙ ap (λ (k : ℕ). k - r.low - r.loose) to in
-    let best : c.max.result ≡ max c.loop-block.most (l.hi - r.low - r.loose) = c.max.ensures ∙ ap (λ (k : ℕ). max c.loop-block.most k) last in
+    let to = ap (λ s. s.to) c.bounds-bounds.ensures.value in
+    let last = c.room_to-room-2.ensures ∙ ap (λ k. k - r.low - r.loose) to in
+    let best = c.max.ensures ∙ ap (λ k. max c.loop-block.most k) last in
     M.passed_end (λ x. not (is_about c.args.h x.id)) l.hi l.blocks _ now.passed.0 (now.passed.1 ∙ c.in-None.ensures.steps.0) c.loop-block.most r now.passed.2 c.max.result best
 
 pub returns-clause-told : goal.returns-clause-told
 returns-clause-told g c =
     let l = c.args.blocks.now in let now = c.loop-block.invariant in let p = λ (x : Block). not (is_about c.args.h x.id) in
-    let to : c.bounds-bounds.result.to ≡ l.hi = ap (λ (s : Span). s.to) c.bounds-bounds.ensures.value in
+    let to = ap (λ s. s.to) c.bounds-bounds.ensures.value in
     let none = now.passed.1 ∙ c.in-None.ensures.steps.0 in
     let lt : c.loop-block.gap < length c.loop-block.rooms = let many = c.requires.rooms in let long = c.loop-block.auto.rooms in let known = now.filled.known in omega arith in
     fill_ended p l.lo l.hi l.cap l.blocks c.loop-block.gap c.loop-block.reached.low c.loop-block.reached.loose c.loop-block.gap_of c.loop-block.rooms _ c.room_to-room-2.result _ c.in-None.ensures.steps.0 now.filled
-    (M.ends_now_all p l.hi l.blocks _ now.passed.0 none c.loop-block.most c.loop-block.reached now.passed.2) lt (c.room_to-room-2.ensures ∙ ap (λ (k : ℕ). k - c.loop-block.reached.low - c.loop-block.reached.loose) to) refl
+    (M.ends_now_all p l.hi l.blocks _ now.passed.0 none c.loop-block.most c.loop-block.reached now.passed.2) lt (c.room_to-room-2.ensures ∙ ap (λ k. k - c.loop-block.reached.low - c.loop-block.reached.loose) to) refl
 
 -- the next block's place and the bytes before it
 pub passing-reached-requires : goal.passing-reached-requires

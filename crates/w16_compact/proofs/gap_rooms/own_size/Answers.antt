@@ -16,7 +16,7 @@ returns-then-cap-id g c =
 pub returns-in-Some-find : goal.returns-in-Some-find
 returns-in-Some-find g c =
     let l = c.args.blocks.now in
-    subst (IsLeft l.blocks c.in-Some-find.block.size) (sym c.in-Some.is) (left_known l.cap c.in-Some.id l.blocks c.reveal_order.ensures.named (Some c.in-Some-find.block) c.in-Some-find.ensures.value)
+    subst (IsLeft l.blocks _) (sym c.in-Some.is) (left_known l.cap c.in-Some.id l.blocks c.reveal_order.ensures.named (Some _) c.in-Some-find.ensures.value)
 
 pub returns-in-None : goal.returns-in-None
 returns-in-None g c =

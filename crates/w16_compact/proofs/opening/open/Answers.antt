@@ -77,34 +77,34 @@ module _ (l : Layout) (is : C.IsOrdered l) (id : ℕ) (x : Block) (known : block
             ∙ sym (ap (λ (n : Layout). moved_between l.blocks n.blocks) new_is ∙ M.moved_to (held id x.hold) (λ b. refl) l.blocks mid.blocks)
 
 pub open_loose-moved-requires-clause-known : goal.open_loose-moved-requires-clause-known
-open_loose-moved-requires-clause-known g c = subst (λ (o : C.Option Block). C.IsSome o) (sym (begun_known c.args.blocks.now c.find.ensures.ordered c.args.id c.in-Some.block (sym c.in-Some.ensures.value) _ c.set_hold.ensures.value)) refl
+open_loose-moved-requires-clause-known g c = subst (λ o. C.IsSome o) (sym (begun_known c.args.blocks.now c.find.ensures.ordered c.args.id c.in-Some.block (sym c.in-Some.ensures.value) _ c.set_hold.ensures.value)) refl
 
 pub open_loose-moved-requires-clause-within : goal.open_loose-moved-requires-clause-within
 open_loose-moved-requires-clause-within g c =
     let known = sym c.in-Some.ensures.value in
-    if_known (λ b. (c.args.low ≤ b.at) × (block_end b ≤ c.args.high)) _ (record c.in-Some.block { hold = Loose }) (begun_known c.args.blocks.now c.find.ensures.ordered c.args.id c.in-Some.block known _ c.set_hold.ensures.value)
+    if_known (λ b. (c.args.low ≤ b.at) × (block_end b ≤ c.args.high)) _ (record c.in-Some.block { hold = Loose }) (begun_known c.args.blocks.now c.find.ensures.ordered c.args.id _ known _ c.set_hold.ensures.value)
     (of_known (λ b. (c.args.low ≤ b.at) × (block_end b ≤ c.args.high)) _ c.in-Some.block known c.requires.within)
 
 pub open_loose-moved-requires-clause-gap : goal.open_loose-moved-requires-clause-gap
 open_loose-moved-requires-clause-gap g c =
-    subst (λ k. C.MayGather k c.args.low c.args.high) (sym (begun_is c.args.blocks.now c.find.ensures.ordered c.args.id c.in-Some.block (sym c.in-Some.ensures.value) _ c.set_hold.ensures.value)) c.requires.gap
+    subst (λ k. C.MayGather k c.args.low c.args.high) (sym (begun_is _ c.find.ensures.ordered _ c.in-Some.block (sym c.in-Some.ensures.value) _ c.set_hold.ensures.value)) c.requires.gap
 
 pub open_loose-moved-requires-clause-memory : goal.open_loose-moved-requires-clause-memory
 open_loose-moved-requires-clause-memory g c =
     let same = begun_is c.args.blocks.now c.find.ensures.ordered c.args.id c.in-Some.block (sym c.in-Some.ensures.value) _ c.set_hold.ensures.value in record {
       kept = subst (λ hs. g.H.Holes.are_in hs (g.S.Space.bytes c.args.space.now)) (begun_holes c.args.blocks.now c.find.ensures.ordered c.args.id c.in-Some.block (sym c.in-Some.ensures.value) _ c.set_hold.ensures.value) c.requires.memory.kept;
-      inside = subst (λ (n : ℕ). n ≤ C.length (g.S.Space.bytes c.args.space.now)) (sym (ap (λ (l : Layout). l.hi) same)) c.requires.memory.inside;
+      inside = subst (λ n. n ≤ C.length (g.S.Space.bytes c.args.space.now)) (sym (ap (λ l. l.hi) same)) c.requires.memory.inside;
     }
 
 pub set_hold-requires-2-clause-known : goal.set_hold-requires-2-clause-known
 set_hold-requires-2-clause-known g c =
     let e = c.open_loose-moved.ensures in
-    subst (λ (o : C.Option Block). C.IsSome o) (sym (mid_known c.args.blocks.now c.find.ensures.ordered c.args.id c.in-Some.block (sym c.in-Some.ensures.value) _ c.set_hold.ensures.value c.args.low c.args.high _ e.ordered e.blocks e.place)) refl
+    subst (λ o. C.IsSome o) (sym (mid_known c.args.blocks.now c.find.ensures.ordered c.args.id c.in-Some.block (sym c.in-Some.ensures.value) _ c.set_hold.ensures.value c.args.low c.args.high _ e.ordered e.blocks e.place)) refl
 
 pub set_hold-requires-2-clause-id : goal.set_hold-requires-2-clause-id
 set_hold-requires-2-clause-id g c =
     let e = c.open_loose-moved.ensures in
-    subst (λ n. c.args.id < n) (sym (ap (λ (k : Layout). k.cap) (mid_is c.args.blocks.now c.find.ensures.ordered c.args.id c.in-Some.block (sym c.in-Some.ensures.value) _ c.set_hold.ensures.value c.args.low c.args.high _ e.ordered e.blocks e.place))) c.requires.id
+    subst (λ n. c.args.id < n) (sym (ap (λ k. k.cap) (mid_is c.args.blocks.now c.find.ensures.ordered c.args.id c.in-Some.block (sym c.in-Some.ensures.value) _ c.set_hold.ensures.value c.args.low c.args.high _ e.ordered e.blocks e.place))) c.requires.id
 
 -- What is left.
 module _ (g : Given.Over) (c : goal.After-set_hold-2 g) where
@@ -152,7 +152,7 @@ returns-clause-rest g c =
     let same = begun_is c.args.blocks.now c.find.ensures.ordered c.args.id c.in-Some.block (sym c.in-Some.ensures.value) _ c.set_hold.ensures.value in record {
       kept = subst (λ hs. g.H.Holes.are_in hs (g.S.Space.bytes c.open_loose-moved.new.space))
           (new_holes c.args.blocks.now c.find.ensures.ordered c.args.id c.in-Some.block (sym c.in-Some.ensures.value) _ c.set_hold.ensures.value c.args.low c.args.high _ e.ordered e.blocks e.place _ c.set_hold-2.ensures.value) e.rest.kept;
-      bytes = subst (λ (l : Layout). C.IsSameRest l.lo l.hi (g.S.Space.bytes c.args.space.now) (g.S.Space.bytes c.open_loose-moved.new.space)) same e.rest.bytes;
+      bytes = subst (λ l. C.IsSameRest l.lo l.hi (g.S.Space.bytes c.args.space.now) (g.S.Space.bytes c.open_loose-moved.new.space)) same e.rest.bytes;
       loans = e.rest.loans;
     }
 
@@ -160,14 +160,14 @@ pub returns-clause-place : goal.returns-clause-place
 returns-clause-place g c =
     let e = c.open_loose-moved.ensures in let known = sym c.in-Some.ensures.value in
     if_known (λ b. block_with c.set_hold-2.new.self.blocks c.args.id ≡ Some (record b { at = c.args.low + loose_bytes (with_loose c.args.id c.args.blocks.now).blocks c.args.low b.at })) _ c.in-Some.block known
-    (new_known c.args.blocks.now c.find.ensures.ordered c.args.id c.in-Some.block known _ c.set_hold.ensures.value c.args.low c.args.high _ e.ordered e.blocks e.place _ c.set_hold-2.ensures.value)
+    (new_known c.args.blocks.now c.find.ensures.ordered c.args.id _ known _ c.set_hold.ensures.value _ c.args.high _ e.ordered e.blocks e.place _ c.set_hold-2.ensures.value)
 
 pub returns-clause-blocks : goal.returns-clause-blocks
 returns-clause-blocks g c =
-    if_known (λ b. with_loose c.args.id (new g c) ≡ record (old g c) { blocks = opened c.args.low (block_end b) c.args.high (old g c).blocks }) _ (block g c) (known g c) (new_mid g c ∙ mid_old g c)
+    if_known (λ b. with_loose _ _ ≡ record (old g c) { blocks = opened _ _ _ (old g c).blocks }) _ (block g c) (known g c) (new_mid g c ∙ mid_old g c)
 
 pub returns-clause-slid : goal.returns-clause-slid
-returns-clause-slid g c = subst (λ (k : Layout). C.AreSlid (old g c).blocks k.blocks) (sym (new_mid g c)) (subst (λ (k : Layout). C.AreSlid k.blocks (mid g c).blocks) (begun_old g c) c.open_loose-moved.ensures.slid)
+returns-clause-slid g c = subst (λ k. C.AreSlid (old g c).blocks k.blocks) (sym (new_mid g c)) (subst (λ k. C.AreSlid k.blocks (mid g c).blocks) (begun_old g c) c.open_loose-moved.ensures.slid)
 
 pub returns-clause-contents : goal.returns-clause-contents
 returns-clause-contents g c =
@@ -184,7 +184,7 @@ pub returns-clause-left : goal.returns-clause-left
 returns-clause-left g c =
     let l = c.args.blocks.now in let bs = (old g c).blocks in
     let mid_left = of_begun g c (λ k b. C.LeavesFree c.args.low c.args.high (end_in k.blocks c.args.low b) (end_in k.blocks c.args.low b + C.spare_in k.blocks c.args.low c.args.high) k (mid g c)) c.open_loose-moved.ensures.left in
-    if_known (λ b. C.LeavesFree c.args.low c.args.high (end_in bs c.args.low b) (end_in bs c.args.low b + C.spare_in bs c.args.low c.args.high) (old g c) (new g c)) _ (block g c) (known g c) (record {
+    if_known (λ b. C.LeavesFree _ _ _ _ _ _) _ (block g c) (known g c) (record {
       clear = (to_new g c l.lo l.hi _ _).0 mid_left.clear;
       hole = λ gap some. (to_new g c l.lo l.hi _ _).1 (mid_left.hole gap some);
       alone = λ gap p q hole. mid_left.alone gap p q ((to_new g c l.lo l.hi p q).2 hole);

@@ -7,17 +7,17 @@ use Rattle.w16_compact.proofs.opening.open_loose.Given as Given
 use Rattle.w16_compact.proofs.opening.open_loose.Goals as goal
 
 within : (l : Layout) (id low high : ℕ) (x : Block) → block_with l.blocks id ≡ Some x → C.IfSome (block_with l.blocks id) (λ b. (low ≤ b.at) × (block_end b ≤ high)) → (low ≤ x.at) × (block_end x ≤ high)
-within l id low high x e is = M.of_known (λ b. (low ≤ b.at) × (block_end b ≤ high)) (block_with l.blocks id) x e is
+within l id low high x e is = M.of_known (λ b. (low ≤ b.at) × (block_end b ≤ high)) _ x e is
 
 pub gather-down-requires-clause-gap : goal.gather-down-requires-clause-gap
 gather-down-requires-clause-gap g c =
-    let l = c.args.blocks.now in let x = c.in-Some.block in let e = c.in-Some.ensures.value in let at = within l c.args.id c.args.low c.args.high x (sym e) c.requires.within in
-    M.may_low l c.in-Some.ensures.ordered c.args.low c.args.high c.requires.gap x (known_by l c.args.id x (sym e)) at.0 at.1
+    let l = c.args.blocks.now in let x = c.in-Some.block in let e = c.in-Some.ensures.value in let at = within l _ _ c.args.high x (sym e) c.requires.within in
+    M.may_low l c.in-Some.ensures.ordered _ _ c.requires.gap x (known_by l _ x (sym e)) at.0 at.1
 
 pub raise-requires-clause-gap : goal.raise-requires-clause-gap
 raise-requires-clause-gap g c =
-    let l = c.args.blocks.now in let x = c.in-Some.block in let e = c.in-Some.ensures.value in let at = within l c.args.id c.args.low c.args.high x (sym e) c.requires.within in
-    M.may_high l c.in-Some.ensures.ordered c.args.low c.args.high c.requires.gap x (known_by l c.args.id x (sym e)) at.0 at.1 c.gather-down.new.blocks c.gather-down.ensures.blocks
+    let l = c.args.blocks.now in let x = c.in-Some.block in let e = c.in-Some.ensures.value in let at = within l _ c.args.low _ x (sym e) c.requires.within in
+    M.may_high l c.in-Some.ensures.ordered _ _ c.requires.gap x (known_by l _ x (sym e)) at.0 at.1 _ c.gather-down.ensures.blocks
 
 pub overflow_add-result : goal.overflow_add-result
 overflow_add-result g c =
@@ -29,7 +29,7 @@ overflow_add-result g c =
     record { fits = omega (arith, one, two, down, up, all, all', small, small') }
 
 pub returns-clause-slid : goal.returns-clause-slid
-returns-clause-slid g c = M.slid_more c.args.blocks.now.blocks c.gather-down.new.blocks.blocks c.raise.new.blocks.blocks c.gather-down.ensures.slid c.raise.ensures.slid
+returns-clause-slid g c = M.slid_more _ c.gather-down.new.blocks.blocks _ c.gather-down.ensures.slid c.raise.ensures.slid
 
 module _ (g : Given.Over) (c : goal.After-raise g) where
   abbrev l : Layout
@@ -68,8 +68,8 @@ module _ (g : Given.Over) (c : goal.After-raise g) where
 pub returns-clause-place : goal.returns-clause-place
 returns-clause-place g c =
     M.if_known (λ b. block_with c.raise.new.blocks.blocks c.args.id ≡ Some (record b { at = c.args.low + C.loose_bytes c.args.blocks.now.blocks c.args.low b.at })) _ c.in-Some.block (sym c.in-Some.ensures.value)
-    (ap (block_with c.raise.new.blocks.blocks) (sym (C.with_id c.args.id c.in-Some.block c.args.blocks.now.blocks (sym c.in-Some.ensures.value))) ∙ ap (λ bs. block_with bs c.in-Some.block.id) (list g c)
-    ∙ M.with_opened c.args.blocks.now c.find.ensures.ordered c.args.low c.args.high c.requires.gap c.in-Some.block (known g c) (at g c).0 (at g c).1)
+    (ap (block_with c.raise.new.blocks.blocks) (sym (C.with_id _ c.in-Some.block c.args.blocks.now.blocks (sym c.in-Some.ensures.value))) ∙ ap (λ bs. block_with bs c.in-Some.block.id) (list g c)
+    ∙ M.with_opened c.args.blocks.now c.find.ensures.ordered _ _ c.requires.gap c.in-Some.block (known g c) (at g c).0 (at g c).1)
 
 pub returns-clause-moved : goal.returns-clause-moved
 returns-clause-moved g c =
@@ -86,4 +86,4 @@ returns-clause-moved g c =
 pub returns-clause-left : goal.returns-clause-left
 returns-clause-left g c =
     let l = c.args.blocks.now in
-    M.if_known (λ b. C.LeavesFree c.args.low c.args.high (end_in l.blocks c.args.low b) (end_in l.blocks c.args.low b + spare_in l.blocks c.args.low c.args.high) l c.raise.new.blocks) _ c.in-Some.block (sym c.in-Some.ensures.value) (left g c)
+    M.if_known (λ b. C.LeavesFree _ _ _ _ l _) _ c.in-Some.block (sym c.in-Some.ensures.value) (left g c)

@@ -13,18 +13,18 @@ loop-block-init g c =
     record {
       bounds = (refl, refl, refl, refl);
       ordered = c.reveal_order.ensures;
-      list = sym (M.raised_none l.blocks c.args.high l.blocks);
+      list = sym (M.raised_none l.blocks _ _);
       low = order;
       high = omega arith;
-      cut = cut_high c.args.low c.args.high l.blocks order gap.loose;
+      cut = cut_high _ _ _ order gap.loose;
       place = let none = M.loose_empty l.blocks c.args.high in omega arith;
       room = omega arith;
       grained = c.requires.grained;
-      moved = sym (ap (C.moved_between l.blocks) (sym (M.raised_none l.blocks c.args.high l.blocks)) ∙ M.moved_start c.args.high l.blocks);
+      moved = sym (ap (C.moved_between _) (sym (M.raised_none l.blocks _ _)) ∙ M.moved_start c.args.high l.blocks);
       small = omega arith;
       written = omega arith;
       contents = refl;
-      rest = record { kept = c.requires.memory.kept; bytes = rest_same _ _ (g.S.Space.bytes c.args.space.now); loans = refl };
+      rest = record { kept = c.requires.memory.kept; bytes = rest_same _ _ _; loans = refl };
     }
 
 -- the run that ends with a block has bytes
@@ -33,9 +33,9 @@ run_some l x ordered known low begin from is first =
     let size = (lies l x.id x known ordered).1 in let order = is.inside.1 in
     elim first [
       | inl bottom ↦ omega arith
-      | inr none ↦ elim (C.cases_lt begin (block_end x)) [
+      | inr none ↦ elim (C.cases_lt begin _) [
         | inl lt ↦ lt
-        | inr ge ↦ absurd (C.each_with (λ b. block_end b ≢ begin) x.id x l.blocks known none (omega arith))
+        | inr ge ↦ absurd (C.each_with (λ b. block_end b ≢ begin) x.id x _ known none (omega arith))
       ]
     ]
 
@@ -53,12 +53,12 @@ run_begin-requires-clause-inside g c =
 pub run_begin-requires-clause-grained : goal.run_begin-requires-clause-grained
 run_begin-requires-clause-grained g c =
     let l = c.args.blocks.now in let inv = c.loop-block.invariant in let is = c.in-Some.ensures.value in
-    let grained = C.grained_known c.loop-block.blocks c.in-Some.block.id c.in-Some.block is.0.known inv.ordered in C.multiple_sum c.loop-block.blocks.grain c.in-Some.block.at c.in-Some.block.size grained.0 grained.1
+    let grained = C.grained_known c.loop-block.blocks c.in-Some.block.id c.in-Some.block is.0.known inv.ordered in C.multiple_sum _ _ _ grained.0 grained.1
 
 pub run_begin-requires-clause-whole : goal.run_begin-requires-clause-whole
 run_begin-requires-clause-whole g c =
     let l = c.args.blocks.now in let inv = c.loop-block.invariant in let is = c.in-Some.ensures.value in (
-      M.cut_low_now l.blocks c.args.low c.args.high c.loop-block.from c.loop-block.to inv.low inv.high inv.place inv.room c.loop-block.blocks.blocks inv.list (cut_low c.args.low c.args.high l.blocks c.requires.gap.inside.1 c.requires.gap.loose),
+      M.cut_low_now l.blocks _ c.args.high _ c.loop-block.to inv.low inv.high inv.place inv.room _ inv.list (cut_low _ c.args.high _ c.requires.gap.inside.1 c.requires.gap.loose),
       M.cut_end_now c.loop-block.blocks c.in-Some.block inv.ordered is.0.known,
     )
 
@@ -70,40 +70,40 @@ overflow_sub-to g c =
 pub overflow_sub-to-in-Some : goal.overflow_sub-to-in-Some
 overflow_sub-to-in-Some g c =
     let l = c.args.blocks.now in let inv = c.loop-block.invariant in let is = c.in-Some.ensures.value in
-    (room_then l.blocks l.lo l.hi c.args.low c.args.high c.loop-block.from c.loop-block.to c.reveal_order.ensures.laid c.requires.gap.loose inv.high inv.place inv.room inv.cut c.loop-block.blocks inv.ordered inv.list
+    (room_then _ l.lo l.hi c.args.low c.args.high _ _ c.reveal_order.ensures.laid c.requires.gap.loose inv.high inv.place inv.room inv.cut c.loop-block.blocks inv.ordered inv.list
     c.in-Some.block is.0.known is.0.below is.0.last (record
     { from = c.run_begin.result; to = block_end c.in-Some.block }) c.run_begin.ensures.run
-    (run_some c.loop-block.blocks c.in-Some.block inv.ordered is.0.known c.args.low c.run_begin.result is.1
+    (run_some c.loop-block.blocks c.in-Some.block inv.ordered is.0.known _ _ is.1
     c.run_begin.ensures.run c.run_begin.ensures.first) c.run_begin.ensures.low refl).0
 
 pub lift-requires-clause-some : goal.lift-requires-clause-some
 lift-requires-clause-some g c =
     let l = c.args.blocks.now in let inv = c.loop-block.invariant in let is = c.in-Some.ensures.value in
-    run_some c.loop-block.blocks c.in-Some.block inv.ordered is.0.known c.args.low c.run_begin.result is.1 c.run_begin.ensures.run c.run_begin.ensures.first
+    run_some c.loop-block.blocks c.in-Some.block inv.ordered is.0.known _ _ is.1 c.run_begin.ensures.run c.run_begin.ensures.first
 
 pub lift-requires-clause-bare : goal.lift-requires-clause-bare
 lift-requires-clause-bare g c =
     let l = c.args.blocks.now in let inv = c.loop-block.invariant in let is = c.in-Some.ensures.value in
-    M.bare_then l.blocks l.lo l.hi c.args.low c.args.high c.loop-block.from c.loop-block.to c.reveal_order.ensures.laid c.requires.gap.loose inv.high inv.place inv.room inv.cut c.loop-block.blocks inv.ordered inv.list
+    M.bare_then _ l.lo l.hi c.args.low c.args.high _ _ c.reveal_order.ensures.laid c.requires.gap.loose inv.high inv.place inv.room inv.cut c.loop-block.blocks inv.ordered inv.list
     c.in-Some.block is.0.known is.0.below is.0.last (record
     { from = c.run_begin.result; to = block_end c.in-Some.block }) c.run_begin.ensures.run
-    (run_some c.loop-block.blocks c.in-Some.block inv.ordered is.0.known c.args.low c.run_begin.result is.1
+    (run_some c.loop-block.blocks c.in-Some.block inv.ordered is.0.known _ _ is.1
     c.run_begin.ensures.run c.run_begin.ensures.first) c.run_begin.ensures.low refl
 
 pub lift-requires-clause-grained : goal.lift-requires-clause-grained
 lift-requires-clause-grained g c =
     let l = c.args.blocks.now in let inv = c.loop-block.invariant in let is = c.in-Some.ensures.value in
     let grain = inv.bounds.3 in let run = c.run_begin.ensures.run in
-    multiple_less c.loop-block.blocks.grain c.loop-block.to (block_end c.in-Some.block - c.run_begin.result) (subst (λ (n : ℕ). C.IsMultiple n c.loop-block.to) (sym grain) inv.grained)
-    (multiple_less c.loop-block.blocks.grain (block_end c.in-Some.block) c.run_begin.result run.grained.1 run.grained.0)
+    multiple_less _ _ (block_end c.in-Some.block - c.run_begin.result) (subst (λ n. C.IsMultiple n c.loop-block.to) (sym grain) inv.grained)
+    (multiple_less _ _ _ run.grained.1 run.grained.0)
 
 pub lift-requires-clause-up : goal.lift-requires-clause-up
 lift-requires-clause-up g c =
     let l = c.args.blocks.now in let inv = c.loop-block.invariant in let is = c.in-Some.ensures.value in
-    let room = room_then l.blocks l.lo l.hi c.args.low c.args.high c.loop-block.from c.loop-block.to c.reveal_order.ensures.laid c.requires.gap.loose inv.high inv.place inv.room inv.cut c.loop-block.blocks inv.ordered inv.list
+    let room = room_then _ l.lo l.hi c.args.low c.args.high _ _ c.reveal_order.ensures.laid c.requires.gap.loose inv.high inv.place inv.room inv.cut c.loop-block.blocks inv.ordered inv.list
     c.in-Some.block is.0.known is.0.below is.0.last (record
     { from = c.run_begin.result; to = block_end c.in-Some.block }) c.run_begin.ensures.run
-    (run_some c.loop-block.blocks c.in-Some.block inv.ordered is.0.known c.args.low c.run_begin.result is.1
+    (run_some c.loop-block.blocks c.in-Some.block inv.ordered is.0.known _ _ is.1
     c.run_begin.ensures.run c.run_begin.ensures.first) c.run_begin.ensures.low refl in
     let top = c.requires.gap.inside.2 in let hi = inv.bounds.2 in let end = room.2 in let high = room.3 in (room.1, omega arith)
 
@@ -122,7 +122,7 @@ loop-block-preserved g c =
     let l = c.args.blocks.now in let inv = c.loop-block.invariant in let is = c.in-Some.ensures.value in
     let run = c.run_begin.ensures.run in
     let new = c.lift.ensures.blocks in
-    let list = ap (λ (m : Layout). m.blocks) new ∙ M.list_then l.blocks l.lo l.hi c.args.low c.args.high c.loop-block.from c.loop-block.to c.reveal_order.ensures.laid c.requires.gap.loose inv.high inv.place inv.room inv.cut c.loop-block.blocks inv.ordered inv.list
+    let list = ap (λ m. m.blocks) new ∙ M.list_then l.blocks l.lo l.hi c.args.low c.args.high c.loop-block.from c.loop-block.to c.reveal_order.ensures.laid c.requires.gap.loose inv.high inv.place inv.room inv.cut c.loop-block.blocks inv.ordered inv.list
     c.in-Some.block is.0.known is.0.below is.0.last (record
     { from = c.run_begin.result; to = block_end c.in-Some.block }) c.run_begin.ensures.run
     (run_some c.loop-block.blocks c.in-Some.block inv.ordered is.0.known c.args.low c.run_begin.result is.1
@@ -141,7 +141,7 @@ loop-block-preserved g c =
     let few = at_most c.from-moved.result c.run_begin.result (c.loop-block.to - (block_end c.in-Some.block - c.run_begin.result)) (block_end c.in-Some.block - c.run_begin.result) r in
     let grain = inv.bounds.3 in let size = room.0 in
     record {
-      bounds = (ap (λ (m : Layout). m.cap) new ∙ inv.bounds.0, ap (λ (m : Layout). m.lo) new ∙ inv.bounds.1, ap (λ (m : Layout). m.hi) new ∙ inv.bounds.2, ap (λ (m : Layout). m.grain) new ∙ inv.bounds.3);
+      bounds = (ap (λ m. m.cap) new ∙ inv.bounds.0, ap (λ m. m.lo) new ∙ inv.bounds.1, ap (λ m. m.hi) new ∙ inv.bounds.2, ap (λ m. m.grain) new ∙ inv.bounds.3);
       ordered = c.lift.ensures.ordered;
       list = list;
       low = c.run_begin.ensures.low;
@@ -163,7 +163,7 @@ loop-block-preserved g c =
           c.run_begin.ensures.run c.run_begin.ensures.first) c.run_begin.ensures.low refl;
       room = room.1;
       grained = multiple_less l.grain c.loop-block.to (block_end c.in-Some.block - c.run_begin.result) inv.grained
-          (subst (λ (n : ℕ). C.IsMultiple n (block_end c.in-Some.block - c.run_begin.result)) grain (multiple_less c.loop-block.blocks.grain (block_end c.in-Some.block) c.run_begin.result run.grained.1 run.grained.0));
+          (subst (λ n. C.IsMultiple n (block_end c.in-Some.block - c.run_begin.result)) grain (multiple_less c.loop-block.blocks.grain (block_end c.in-Some.block) c.run_begin.result run.grained.1 run.grained.0));
       moved = let total = inv.moved in let same = ap (C.moved_between l.blocks) list in omega (arith, total, same, step);
       small = let h = inv.small in omega arith;
       written = let h = inv.written in let k = c.lift.ensures.written in let wide = c.from-moved.ensures in omega (arith, h, k, wide);
@@ -185,4 +185,4 @@ returns-clause-blocks g c =
 pub returns-clause-slid : goal.returns-clause-slid
 returns-clause-slid g c =
     let l = c.args.blocks.now in
-    subst (C.AreSlid l.blocks) (sym (list g c)) (M.slid_raised l.blocks c.args.low c.args.high l.lo l.hi l.blocks c.reveal_order.ensures.laid c.requires.gap.loose)
+    subst (C.AreSlid _) (sym (list g c)) (M.slid_raised l.blocks c.args.low c.args.high l.lo l.hi _ c.reveal_order.ensures.laid c.requires.gap.loose)

@@ -13,4 +13,4 @@ pub returns-clause-value : goal.returns-clause-value
 returns-clause-value g c =
     let l = c.args.blocks.now in let ids = c.args.order.now.ids in let found = c.search-found.ensures in let wide = c.from.ensures in
     let enough = c.if-found-n.false in let room = found.room in
-    least_needed l.lo l.hi l.blocks ids c.args.h c.args.n c.search-found.result.discards (omega arith) (λ j lt. let fewer = found.fewest j lt in omega arith)
+    least_needed l.lo l.hi _ ids _ _ _ (omega arith) (λ j lt. let fewer = found.fewest j lt in omega arith)

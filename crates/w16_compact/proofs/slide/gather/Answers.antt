@@ -17,18 +17,18 @@ loop-block-init g c =
       settled = c.packed_to-to.ensures.run;
       high = c.packed_to-to.ensures.high;
       fits = gap.loose;
-      stay = M.kept_start c.packed_to-to.result l.blocks;
-      moved = sym (M.moved_same l.blocks);
+      stay = M.kept_start _ _;
+      moved = sym (M.moved_same _);
       small = omega arith;
       written = omega arith;
       contents = refl;
-      rest = record { kept = c.requires.memory.kept; bytes = rest_same _ _ (g.S.Space.bytes c.args.space.now); loans = refl };
+      rest = record { kept = c.requires.memory.kept; bytes = rest_same _ _ _; loans = refl };
     }
 
 pub settle-requires-clause-part : goal.settle-requires-clause-part
 settle-requires-clause-part g c =
     let inv = c.loop-block.invariant in let lt = c.in-Some.ensures.value.1 in
-    let up = above c.loop-block.blocks inv.ordered c.args.low c.args.high c.loop-block.to c.in-Some.block c.in-Some.ensures.value.0 inv.fits c.requires.gap.inside.1 inv.settled in
+    let up = above c.loop-block.blocks inv.ordered c.args.low c.args.high _ c.in-Some.block c.in-Some.ensures.value.0 inv.fits c.requires.gap.inside.1 inv.settled in
     let low = inv.settled.inside.0 in let from = inv.settled.inside.1 in let hi = inv.bounds.2 in let top = c.requires.gap.inside.2 in
     (omega arith, up, lt, omega arith)
 
@@ -40,15 +40,15 @@ settle-requires-clause-grained g c =
 pub settle-requires-clause-whole : goal.settle-requires-clause-whole
 settle-requires-clause-whole g c =
     let inv = c.loop-block.invariant in
-    cuts c.loop-block.blocks inv.ordered c.args.low c.args.high c.loop-block.to c.in-Some.block c.in-Some.ensures.value.0 inv.fits c.requires.gap.inside.1 inv.settled
+    cuts c.loop-block.blocks inv.ordered c.args.low _ c.loop-block.to c.in-Some.block c.in-Some.ensures.value.0 inv.fits c.requires.gap.inside.1 inv.settled
 
 pub settle-requires-clause-begins : goal.settle-requires-clause-begins
-settle-requires-clause-begins g c = λ none. each_got (λ b. b.at ≢ c.in-Some.block.at) c.loop-block.blocks.blocks _ c.in-Some.block c.in-Some.ensures.value.0 none refl
+settle-requires-clause-begins g c = λ none. each_got (λ b. b.at ≢ c.in-Some.block.at) _ _ c.in-Some.block c.in-Some.ensures.value.0 none refl
 
 pub settle-requires-clause-bare : goal.settle-requires-clause-bare
 settle-requires-clause-bare g c =
     let inv = c.loop-block.invariant in
-    M.bare_to c.loop-block.blocks inv.ordered c.args.low c.args.high c.loop-block.to c.in-Some.block c.in-Some.ensures.value.0 inv.fits c.requires.gap.inside.1 inv.settled
+    M.bare_to c.loop-block.blocks inv.ordered c.args.low c.args.high _ c.in-Some.block c.in-Some.ensures.value.0 inv.fits c.requires.gap.inside.1 inv.settled
 
 pub overflow_add-to : goal.overflow_add-to
 overflow_add-to g c =
@@ -73,18 +73,18 @@ loop-block-preserved g c =
     let bare = M.bare_to l inv.ordered low high to c.in-Some.block c.in-Some.ensures.value.0 inv.fits c.requires.gap.inside.1 inv.settled in
     let from = inv.settled.inside.1 in let top = c.settle.ensures.high in let is = c.settle.ensures.run in
     let new = c.settle.ensures.blocks in
-    let list = ap (λ (m : Layout). m.blocks) new in
+    let list = ap (λ m. m.blocks) new in
     let r = c.from-moved.ensures ∙ c.moved_bytes.ensures in
     let step = M.moved_step l inv.ordered low high to run from up some top is bare c.args.blocks.now.blocks inv.stay c.from-moved.result r in
     let few = M.at_most c.from-moved.result run.from to (run.to - run.from) r in
     record {
-      bounds = (ap (λ (m : Layout). m.cap) new ∙ inv.bounds.0, ap (λ (m : Layout). m.lo) new ∙ inv.bounds.1, ap (λ (m : Layout). m.hi) new ∙ inv.bounds.2, ap (λ (m : Layout). m.grain) new ∙ inv.bounds.3);
+      bounds = (ap (λ m. m.cap) new ∙ inv.bounds.0, ap (λ m. m.lo) new ∙ inv.bounds.1, ap (λ m. m.hi) new ∙ inv.bounds.2, ap (λ m. m.grain) new ∙ inv.bounds.3);
       ordered = c.settle.ensures.ordered;
       list = ap (C.gathered low high) list ∙ M.list_then l inv.ordered low high to run from up some top is bare ∙ inv.list;
       settled = M.run_then l inv.ordered low high to run from up some top is bare c.settle.new.blocks c.settle.ensures.ordered new inv.settled;
       high = omega arith;
-      fits = subst (C.AllByRecursion (C.FitsGap low high)) (sym list) (M.fits_then l inv.ordered low high to run from up some top is bare inv.fits);
-      stay = subst (M.AreKept (to + (run.to - run.from)) c.args.blocks.now.blocks) (sym list) (M.kept_then l inv.ordered low high to run from up some top is bare c.args.blocks.now.blocks inv.stay);
+      fits = subst (C.AllByRecursion _) (sym list) (M.fits_then l inv.ordered low high to run from up some top is bare inv.fits);
+      stay = subst (M.AreKept _ _) (sym list) (M.kept_then l inv.ordered low high to run from up some top is bare _ inv.stay);
       moved = let total = inv.moved in let same = ap (C.moved_between c.args.blocks.now.blocks) list in omega (arith, total, same, step);
       small = let h = inv.small in omega arith;
       written = let h = inv.written in let k = c.settle.ensures.written in let wide = c.from-moved.ensures in let own = c.moved_bytes.ensures in omega (arith, h, k, wide, own);
@@ -104,12 +104,12 @@ returns-clause-blocks g c =
 pub returns-clause-slid : goal.returns-clause-slid
 returns-clause-slid g c =
     let l = c.args.blocks.now in
-    subst (C.AreSlid l.blocks) (sym (list g c)) (slid_gathered c.args.low c.args.high l.lo l.hi l.blocks c.reveal_order.ensures.laid c.requires.gap.loose)
+    subst (C.AreSlid _) (sym (list g c)) (slid_gathered c.args.low c.args.high l.lo l.hi l.blocks c.reveal_order.ensures.laid c.requires.gap.loose)
 
 pub returns-clause-left : goal.returns-clause-left
 returns-clause-left g c =
     let l = c.args.blocks.now in let low = c.args.low in let high = c.args.high in let free = low + C.loose_bytes l.blocks low high in let laid = c.reveal_order.ensures.laid in record {
-      clear = subst (λ bs. C.IsClear C.is_any l.lo l.hi bs free high) (sym (list g c)) (clear_gathered l low high laid c.requires.gap);
+      clear = subst (λ bs. C.IsClear _ l.lo l.hi bs free high) (sym (list g c)) (clear_gathered l low high laid c.requires.gap);
       hole = λ gap some. subst (λ bs. C.IsHole l.lo l.hi bs free high) (sym (list g c)) (hole_gathered l low high laid c.requires.gap gap some);
       alone = λ gap a b hole. alone_gathered l low high laid c.requires.gap gap a b (subst (λ bs. C.IsHole l.lo l.hi bs a b) (list g c) hole);
     }

@@ -15,7 +15,7 @@ loop-place-preserved g c =
     let handles = c.args.handles.now in
     let place = c.loop-place.place in
     let handle = C.get_or handles place 0 in
-    let files = g.S.Store.files c.args.store.now in
+    let files = g.S.Store.files _ in
     let before = c.loop-place.invariant in
     let lt : place < length handles = omega arith in
     let here = C.drop_more handles place 0 lt in
@@ -26,7 +26,7 @@ loop-place-preserved g c =
       values = M.still_alike old now next handles place handle here before.values ts.0 ts.2;
       others = λ q none. M.others_next old now next handles place handle here before.values ts.0 ts.2 q none (before.others q none);
       any = λ more are.
-          (let b = before.any (ts.0 ∷ more) (M.targets_left old now next handles place handle here before.values ts.0 ts.1 more are) in (
+          (let b = before.any _ (M.targets_left old now next handles place handle here before.values ts.0 ts.1 more are) in (
             b.0,
             b.1,
             b.2 ∙ step old now next handles place handle here before.values ts.0 ts.2 more,
@@ -39,10 +39,10 @@ loop-place-preserved g c =
     }
 
 pub returns-in-Err-clause-values : goal.returns-in-Err-clause-values
-returns-in-Err-clause-values g c = λ q. ap (λ (modules : C.Modules). C.without_values (finmap.get modules q)) c.in-Err.ensures.err ∙ c.loop-place.invariant.values q
+returns-in-Err-clause-values g c = λ q. ap (λ modules. C.without_values (finmap.get modules q)) c.in-Err.ensures.err ∙ c.loop-place.invariant.values q
 
 pub returns-in-Err-clause-others : goal.returns-in-Err-clause-others
-returns-in-Err-clause-others g c = λ q none. ap (λ (modules : C.Modules). finmap.get modules q) c.in-Err.ensures.err ∙ c.loop-place.invariant.others q none
+returns-in-Err-clause-others g c = λ q none. ap (λ modules. finmap.get modules q) c.in-Err.ensures.err ∙ c.loop-place.invariant.others q none
 
 pub returns-in-Err-clause-faults : goal.returns-in-Err-clause-faults
 returns-in-Err-clause-faults g c = λ reads honest said.
@@ -51,7 +51,7 @@ returns-in-Err-clause-faults g c = λ reads honest said.
     let handles = c.args.handles.now in
     let place = c.loop-place.place in
     let handle = C.get_or handles place 0 in
-    let files = g.S.Store.files c.args.store.now in
+    let files = g.S.Store.files _ in
     let before = c.loop-place.invariant in
     let lt : place < length handles = omega arith in
     let here = C.drop_more handles place 0 lt in
@@ -64,14 +64,14 @@ pub returns-clause-any : goal.returns-clause-any
 returns-clause-any g c =
     let old = c.args.registry.now in
     let past : length c.args.handles.now ≤ c.loop-place.place = omega arith in
-    let none = C.drop_all c.loop-place.place c.args.handles.now past in
+    let none = C.drop_all _ _ past in
     let all = c.loop-place.invariant.any [] (subst (λ hs. C.AreTargets old hs []) (sym none) tt) in (
       all.0,
       all.1,
-      sym (all.2 ∙ M.none_left (finmap.get old) c.loop-place.registry (drop c.loop-place.place c.args.handles.now) [] none),
-      λ reads honest said. all.3 reads honest said (sym (ap M.targets_in_all (C.drop_all c.loop-place.place reads (M.no_more c.args.handles.now reads _ said c.loop-place.place past)))),
+      sym (all.2 ∙ M.none_left (finmap.get old) _ _ [] none),
+      λ reads honest said. all.3 reads honest said (sym (ap M.targets_in_all (C.drop_all _ reads (M.no_more _ reads _ said _ past)))),
     )
 
 pub returns-clause-bound : goal.returns-clause-bound
 returns-clause-bound g c = λ reads honest said.
-    let all = returns-clause-any g c in all.2 ∙ ap (C.all_bound (finmap.get c.args.registry.now) c.args.registry.now c.args.handles.now) (all.3 reads honest said)
+    let all = returns-clause-any g c in all.2 ∙ ap (C.all_bound (finmap.get _) c.args.registry.now c.args.handles.now) (all.3 reads honest said)

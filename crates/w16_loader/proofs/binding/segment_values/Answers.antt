@@ -10,33 +10,33 @@ use Rattle.w16_loader.proofs.binding.segment_values.Goals as goal
 pub check-requires-clause-last : goal.check-requires-clause-last
 check-requires-clause-last g c =
     let many : length c.module.result.now.segments ≡ length c.args.loaded.now.tables.segments =
-    sym (length-map c.module.result.now.segments segment_in) ∙ ap (λ (u : loading.Tables). length u.segments) c.module.ensures in
+    sym (length-map _ _) ∙ ap (λ u. length u.segments) c.module.ensures in
     omega (arith, many, c.requires.last)
 
 pub returns-in-Err-clause-failed : goal.returns-in-Err-clause-failed
 returns-in-Err-clause-failed g c = λ read s honest is at.
-    let files = g.S.Store.files c.args.store.now in
+    let files = g.S.Store.files _ in
     let m = c.args.loaded.now in
     let t = c.module.result.now in
     let stored = stored_as files m read is t c.module.ensures in
     rw c.fault_of_check.ensures.fault
-    (segment_refused files m read is t c.module.ensures (c.args.number - 1) s at _ _ c.in-Err.fault
-    (c.in-Err.ensures.exact is.file (found files m read is t c.module.ensures (c.args.number - 1) s at).0 honest (stored_there files m is.file t stored c.file.result.now c.file.ensures) stored.read (found files m read is t c.module.ensures (c.args.number - 1) s at).1))
+    (segment_refused files m read is t c.module.ensures _ s at _ _ _
+    (c.in-Err.ensures.exact is.file (found files m read is t _ _ s at).0 honest (stored_there files m is.file t stored _ c.file.ensures) stored.read (found files m read is t _ _ s at).1))
 
 pub returns-in-Err-record_values-clause-failed : goal.returns-in-Err-record_values-clause-failed
 returns-in-Err-record_values-clause-failed g c = λ read s honest is at. tt
 
 pub returns-in-Ok-record_values-clause-any : goal.returns-in-Ok-record_values-clause-any
 returns-in-Ok-record_values-clause-any g c = (
-  map (record_target (text_in c.check.new.scratch.texts)) c.check.new.scratch.held.records,
+  map (record_target _) _,
   c.in-Ok-record_values.ensures,
   λ read s honest is at.
-      let files = g.S.Store.files c.args.store.now in
+      let files = g.S.Store.files _ in
       let m = c.args.loaded.now in
       let t = c.module.result.now in
       let stored = stored_as files m read is t c.module.ensures in
-      let segment = found files m read is t c.module.ensures (c.args.number - 1) s at in
-      let there = stored_there files m is.file t stored c.file.result.now c.file.ensures in
+      let segment = found files m read is t c.module.ensures _ s at in
+      let there = stored_there files m is.file t stored _ c.file.ensures in
       let passed = c.in-Ok.ensures.exact is.file segment.0 honest there stored.read segment.1 in
-      targets_alike _ _ c.check.new.scratch.held.records (c.in-Ok.ensures.names is.file honest there) ∙ sym (targets_are files m read is t c.module.ensures (c.args.number - 1) s at c.check.new.scratch.held passed),
+      targets_alike _ _ _ (c.in-Ok.ensures.names is.file honest there) ∙ sym (targets_are files m read is t _ _ s at _ passed),
 )

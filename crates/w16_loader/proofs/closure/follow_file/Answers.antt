@@ -15,7 +15,7 @@ refused_by answers modules found file before after faults.OutOfMemory h = tt
 
 pub returns-in-Err-clause-refused : goal.returns-in-Err-clause-refused
 returns-in-Err-clause-refused g c =
-    let answers = answers_of g.S.Store.is_honest (g.S.Store.files c.args.store.now) in
+    let answers = answers_of g.S.Store.is_honest (g.S.Store.files _) in
     let before = g.S.Store.failures c.args.store.now in
     let after = g.S.Store.failures c.examine_file.new.store in
     subst (λ fault. IsFault (IsRefusedFile answers c.args.registry.now c.args.found.now c.args.file.items) before after fault) (sym c.fault_of_reference.ensures.fault)
@@ -27,14 +27,14 @@ returns-in-Err-clause-device g c = λ e. c.in-Err.ensures.device (sym c.fault_of
 
 pub returns-in-Ok-Meant-clause-leads : goal.returns-in-Ok-Meant-clause-leads
 returns-in-Ok-Meant-clause-leads g c =
-    let answers = answers_of g.S.Store.is_honest (g.S.Store.files c.args.store.now) in
+    let answers = answers_of g.S.Store.is_honest (g.S.Store.files _) in
     subst (λ name. ReadsIn answers c.args.registry.now c.args.found.now name (Meant (referent_of c.in-Ok-Meant.referent))) c.as_slice.ensures.value
-    (subst (MakesOf answers c.args.registry.now c.args.found.now c.as_slice.result.now) c.in-Ok-Meant.field-0-is c.in-Ok-Meant.ensures.makes)
+    (subst (MakesOf answers _ _ _) c.in-Ok-Meant.field-0-is c.in-Ok-Meant.ensures.makes)
 
 pub returns-in-Ok-Read-clause-leads : goal.returns-in-Ok-Read-clause-leads
 returns-in-Ok-Read-clause-leads g c =
-    let answers = answers_of g.S.Store.is_honest (g.S.Store.files c.args.store.now) in (
+    let answers = answers_of _ _ in (
       refl,
       subst (λ name. IsNewIn answers c.args.registry.now c.args.found.now name c.in-Ok-Read.module) c.as_slice.ensures.value
-          (subst (MakesOf answers c.args.registry.now c.args.found.now c.as_slice.result.now) c.in-Ok-Read.field-0-is c.in-Ok-Read.ensures.makes),
+          (subst (MakesOf answers _ _ _) c.in-Ok-Read.field-0-is c.in-Ok-Read.ensures.makes),
     )

@@ -5,7 +5,7 @@ use Rattle.w16_loader.proofs.ending.free.Goals as goal
 
 pub returns-clause-ends : goal.returns-clause-ends
 returns-clause-ends g c = λ rest.
-    ends (in_world (with_handles rest c.args.global.now.handles) c.args.registry.now) (in_world (with_handles rest c.args.global.now.handles) c.end_use.new.self)
-    (in_world (with_handles rest c.release_idle.new.global.handles) c.release_idle.new.registry) c.args.handle c.from.result
-    (c.end_use.ensures (with_handles rest c.args.global.now.handles)) (c.release_idle.ensures.go rest)
+    ends _ (in_world (with_handles rest _) _)
+    _ _ _
+    (c.end_use.ensures (with_handles rest _)) (c.release_idle.ensures.go rest)
     (still_names c.get.result (λ e. named_of e.now) c.release_idle.new.registry c.args.handle c.is_some.result c.from.result c.get.ensures c.is_some.ensures c.from.ensures)

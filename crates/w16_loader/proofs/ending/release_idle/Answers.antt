@@ -5,7 +5,7 @@ use Rattle.w16_loader.proofs.ending.release_idle.Goals as goal
 pub loop-handle-preserved : goal.loop-handle-preserved
 loop-handle-preserved g c = record {
   goes = λ rest end later. c.loop-handle.invariant.goes rest end
-      (goes_first (in_world (with_handles rest c.loop-handle.global.handles) c.loop-handle.registry) (in_world (with_handles rest c.release_module.new.global.handles) c.release_module.new.registry) end c.in-Some.handle
+      (goes_first _ _ end c.in-Some.handle
       c.in-Some.ensures.found (c.release_module.ensures.gone rest) later);
   written = c.release_module.ensures.written ∙ c.loop-handle.invariant.written;
 }

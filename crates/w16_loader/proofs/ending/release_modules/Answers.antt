@@ -7,7 +7,7 @@ pub loop-handle-preserved : goal.loop-handle-preserved
 loop-handle-preserved g c =
     let inside : c.loop-handle.handle-index < length c.args.handles.now = omega arith in
     record {
-      gone = λ rest. next_module (in_world (with_handles rest c.loop-handle.global.handles) c.loop-handle.registry) (in_world (with_handles rest c.release_module.new.global.handles) c.release_module.new.registry) c.args.handles.now c.loop-handle.handle-index inside
+      gone = λ rest. next_module _ _ _ _ inside
           (c.release_module.ensures.gone rest) ∙ c.loop-handle.invariant.gone rest;
       written = c.release_module.ensures.written ∙ c.loop-handle.invariant.written;
     }
@@ -15,4 +15,4 @@ loop-handle-preserved g c =
 pub returns-clause-gone : goal.returns-clause-gone
 returns-clause-gone g c = λ rest.
     let all : length c.args.handles.now ≤ c.loop-handle.handle-index = omega arith in
-    sym (ap (fold without_module (in_world (with_handles rest c.loop-handle.global.handles) c.loop-handle.registry)) (drop_all c.loop-handle.handle-index c.args.handles.now all)) ∙ c.loop-handle.invariant.gone rest
+    sym (ap (fold _ _) (drop_all _ _ all)) ∙ c.loop-handle.invariant.gone rest

@@ -6,5 +6,5 @@ use Rattle.w16_loader.proofs.ending.release_slot.Goals as goal
 pub returns : goal.returns
 returns g c = c.release-2.ensures
     ∙ (λ i. record (c.release.ensures i) { handles = released ((c.release.ensures i).handles) (c.selector_of-selector.result - 1) })
-    ∙ ap (λ (h : Handles). record c.args.global.now { handles = h })
-    (released_twice c.args.global.now.handles c.reveal_handles.ensures c.args.slot c.selector_of-selector.result (c.selector_of-selector.result - 1) c.selector_of-selector.ensures refl)
+    ∙ ap (λ h. record c.args.global.now { handles = h })
+    (released_twice _ c.reveal_handles.ensures _ _ _ c.selector_of-selector.ensures refl)

@@ -8,12 +8,12 @@ loop-slot-preserved g c =
     let inside : c.loop-slot.slot-index < length c.args.slots.now = omega arith in
     let one : c.release_slot.new.global ≡ record c.loop-slot.global { handles = without_slot c.loop-slot.global.handles (get_or c.args.slots.now c.loop-slot.slot-index 0) } = c.release_slot.ensures in
     record {
-      gone = λ rest. next_slot rest c.loop-slot.global.handles c.release_slot.new.global.handles c.args.slots.now c.loop-slot.slot-index (get_or c.args.slots.now c.loop-slot.slot-index 0) inside refl
-          (ap (λ (x : Global). x.handles) one) ∙ c.loop-slot.invariant.gone rest;
-      written = ap (λ (x : Global). x.written) one ∙ c.loop-slot.invariant.written;
+      gone = λ rest. next_slot rest _ _ _ _ _ inside refl
+          (ap (λ x. x.handles) one) ∙ c.loop-slot.invariant.gone rest;
+      written = ap (λ x. x.written) one ∙ c.loop-slot.invariant.written;
     }
 
 pub returns-clause-gone : goal.returns-clause-gone
 returns-clause-gone g c = λ rest.
     let all : length c.args.slots.now ≤ c.loop-slot.slot-index = omega arith in
-    no_slot rest c.loop-slot.global.handles (drop c.loop-slot.slot-index c.args.slots.now) (drop_all c.loop-slot.slot-index c.args.slots.now all) ∙ c.loop-slot.invariant.gone rest
+    no_slot rest _ _ (drop_all _ _ all) ∙ c.loop-slot.invariant.gone rest

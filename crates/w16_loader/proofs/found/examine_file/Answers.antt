@@ -16,10 +16,10 @@ refused answers modules found name before after faults.OutOfMemory h = tt
 
 made_since : {X : Type 0} (IsMade : X → Type 0) (IsRefused : ℕ → Type 0) (before mid after : ℕ) (r : Result X FileFault) → before ≤ mid → MatchResult r IsMade (IsFault IsRefused mid after) → MatchResult r IsMade (IsFault IsRefused before after)
 made_since IsMade IsRefused before mid after (Ok made) le h = h
-made_since IsMade IsRefused before mid after (Err fault) le h = fault_since IsRefused before mid after fault le h
+made_since IsMade IsRefused before mid after (Err fault) le h = fault_since _ before mid after fault le h
 
 pub returns-in-Err-clause-makes : goal.returns-in-Err-clause-makes
-returns-in-Err-clause-makes g c = refused (answers_of g.S.Store.is_honest (g.S.Store.files c.args.store.now)) c.args.registry.now c.args.found.now c.args.name.now _ _ c.in-Err.fault c.in-Err.ensures.says
+returns-in-Err-clause-makes g c = refused (answers_of _ _) c.args.registry.now c.args.found.now c.args.name.now _ _ _ c.in-Err.ensures.says
 
 pub returns-in-Ok-clause-makes : goal.returns-in-Ok-clause-makes
 returns-in-Ok-clause-makes g c =
@@ -30,12 +30,12 @@ returns-in-Ok-clause-makes g c =
 
 rose_since : {X : Type 0} (r : Result X FileFault) (before mid after : ℕ) → before ≤ mid → IfErr r (RoseIf is_file_device mid after) → IfErr r (RoseIf is_file_device before after)
 rose_since (Ok made) before mid after le h = h
-rose_since (Err fault) before mid after le h = λ e. (let lt : mid < after = h e in omega (arith, le, lt))
+rose_since (Err fault) before mid after le h = λ e. (let lt = h e in omega (arith, le, lt))
 
 pub returns-in-Ok-clause-device : goal.returns-in-Ok-clause-device
-returns-in-Ok-clause-device g c = rose_since c.settle.result _ _ _ c.read_file.ensures.stays.counted c.settle.ensures.device
+returns-in-Ok-clause-device g c = rose_since _ _ _ _ c.read_file.ensures.stays.counted c.settle.ensures.device
 
 pub returns-in-Ok-clause-there : goal.returns-in-Ok-clause-there
 returns-in-Ok-clause-there g c =
     let says = subst (λ fs. (answers_of g.S.Store.is_honest fs).says c.args.name.now (Ok (tables_in c.in-Ok.read))) (sym c.read_file.ensures.stays.same) c.in-Ok.ensures.says in
-    all_there c.args.registry.now c.args.found.now (answers_of g.S.Store.is_honest (g.S.Store.files c.read_file.new.store)) c.args.name.now _ c.settle.result (c.settle.ensures.makes says)
+    all_there _ _ (answers_of _ _) c.args.name.now _ _ (c.settle.ensures.makes says)

@@ -6,18 +6,18 @@ use Rattle.w16_loader.proofs.found.read_file.Goals as goal
 
 pub returns-in-Err-clause-says : goal.returns-in-Err-clause-says
 returns-in-Err-clause-says g c = rw c.fault_of_length.ensures.fault
-    (length_told g.S.Store.is_honest (g.S.Store.files c.args.store.now) c.args.name.now _ _ c.in-Err.fault c.in-Err.ensures.missing c.in-Err.ensures.honest c.in-Err.ensures.device)
+    (length_told _ _ _ _ _ _ c.in-Err.ensures.missing c.in-Err.ensures.honest c.in-Err.ensures.device)
 
 pub returns-in-Err-read_module-clause-says : goal.returns-in-Err-read_module-clause-says
-returns-in-Err-read_module-clause-says g c = refuses_told g.S.Store.is_honest (g.S.Store.files c.args.store.now) c.args.name.now _ _ c.fault_of.result c.fault_of.ensures.refuses
+returns-in-Err-read_module-clause-says g c = refuses_told _ _ _ _ _ _ c.fault_of.ensures.refuses
     (λ honest. rw c.fault_of.ensures.fault
-    (is_refused (file_of (g.S.Store.files c.args.store.now) c.args.name.now) c.in-Ok.field-0 _ _ _ c.in-Err-read_module.fault c.in-Ok.ensures.stays.counted
+    (is_refused (file_of _ _) c.in-Ok.field-0 _ _ _ _ c.in-Ok.ensures.stays.counted
     (c.in-Ok.ensures.honest honest) (c.in-Ok.ensures.bytes honest) (rw c.in-Ok.ensures.stays.same at c.in-Err-read_module.ensures.exact honest)))
     (λ e. let rose = c.in-Err-read_module.ensures.device (sym c.fault_of.ensures.device ∙ ap is_file_device e) in omega (arith, rose, c.in-Ok.ensures.stays.counted))
 
 pub returns-in-Ok-read_module-clause-says : goal.returns-in-Ok-read_module-clause-says
 returns-in-Ok-read_module-clause-says g c = (
   tt,
-  λ honest. read_told (file_of (g.S.Store.files c.args.store.now) c.args.name.now) c.in-Ok-read_module.module (is_read (file_of (g.S.Store.files c.args.store.now) c.args.name.now) c.in-Ok.field-0 c.in-Ok-read_module.module
+  λ honest. read_told (file_of _ _) c.in-Ok-read_module.module (is_read _ c.in-Ok.field-0 _
       (c.in-Ok.ensures.honest honest) (c.in-Ok.ensures.bytes honest) (rw c.in-Ok.ensures.stays.same at c.in-Ok-read_module.ensures.exact honest)),
 )

@@ -8,7 +8,7 @@ use Rattle.w16_loader.proofs.found.settle.Goals as goal
 
 pub returns-in-Some-clause-makes : goal.returns-in-Some-clause-makes
 returns-in-Some-clause-makes g c = λ says.
-    let meant : meant_in c.args.registry.now c.args.found.now c.name.result.now ≡ Some (C.referent_of c.in-Some.referent) = sym (c.in-Some.ensures []) in
+    let meant = sym (c.in-Some.ensures []) in
     (tables_in c.args.read, says, ap (λ n. meant_in c.args.registry.now c.args.found.now n) (sym c.name.ensures) ∙ meant)
 
 pub returns-in-Ok-clause-makes : goal.returns-in-Ok-clause-makes
@@ -30,4 +30,4 @@ unsound answers modules found name t before after faults.OutOfMemory says none h
 pub returns-in-Err-clause-makes : goal.returns-in-Err-clause-makes
 returns-in-Err-clause-makes g c = λ says.
     let none = ap (λ n. meant_in c.args.registry.now c.args.found.now n) (sym c.name.ensures) ∙ sym (c.in-None.ensures []) in
-    unsound (C.answers_of g.S.Store.is_honest (g.S.Store.files c.args.store.now)) c.args.registry.now c.args.found.now c.args.name.now c.args.read _ _ c.in-Err.fault says none (c.in-Err.ensures.checked says)
+    unsound (C.answers_of _ _) _ c.args.found.now c.args.name.now c.args.read _ _ _ says none (c.in-Err.ensures.checked says)

@@ -7,25 +7,25 @@ use Rattle.w16_loader.proofs.loading.give.Goals as goal
 
 pub returns-in-Err-clause-given : goal.returns-in-Err-clause-given
 returns-in-Err-clause-given g c = λ rest old meant start le is accepted us.
-    unbound_held g.S.Store.is_honest (g.S.Store.files c.args.store.now) start
-    (g.S.Store.failures c.bind_modules.new.store) old meant c.args.handles.now
-    (in_world (with_handles rest c.args.global.now.handles) c.args.registry.now) us is accepted
-    c.bind_modules.new.registry c.in-Err.ensures.values c.in-Err.ensures.others (g.S.Store.failures c.args.store.now)
-    le c.in-Err.fault c.in-Err.ensures.read c.in-Err.ensures.device c.in-Err.ensures.faults
+    unbound_held _ _ start
+    _ old meant _
+    _ us is accepted
+    _ c.in-Err.ensures.values c.in-Err.ensures.others _
+    le _ c.in-Err.ensures.read c.in-Err.ensures.device c.in-Err.ensures.faults
 
 pub returns-in-Err-clause-undone : goal.returns-in-Err-clause-undone
 returns-in-Err-clause-undone g c = λ rest old meant is u none.
-    taken_back old meant c.args.handles.now (in_world (with_handles rest c.args.global.now.handles) c.args.registry.now) u c.bind_modules.new.registry c.in-Err.ensures.values c.in-Err.ensures.others is
+    taken_back old meant _ _ u _ c.in-Err.ensures.values c.in-Err.ensures.others is
 
 pub returns-in-Ok-fill_modules-clause-given : goal.returns-in-Ok-fill_modules-clause-given
 returns-in-Ok-fill_modules-clause-given g c = λ rest old meant start le is accepted us.
     let bound = c.in-Ok.ensures.any in
     subst (λ h. LoadsHeld g.S.Store.is_honest (g.S.Store.files c.args.store.now) start (g.S.Store.failures c.fill_modules.new.store) old meant (Says (slice_index_or c.args.handles.now 0 0)) (in_world (with_handles rest h) c.bind_modules.new.registry)) (sym c.in-Ok-fill_modules.ensures.rest)
-    (filled_held g.S.Store.is_honest (g.S.Store.files c.args.store.now) start
-    (g.S.Store.failures c.fill_modules.new.store) old meant c.args.handles.now
-    (in_world (with_handles rest c.args.global.now.handles) c.args.registry.now) us is accepted
-    c.bind_modules.new.registry bound.0 bound.1 bound.2 bound.3
-    (g.S.Store.failures c.bind_modules.new.store) (omega (arith, le, c.in-Ok.ensures.stays.counted)) c.fill_modules.new.global.handles.heap
+    (filled_held _ _ start
+    _ old meant _
+    _ us is accepted
+    _ bound.0 bound.1 bound.2 bound.3
+    _ (omega (arith, le, c.in-Ok.ensures.stays.counted)) _
     (λ reads are its empty. c.in-Ok-fill_modules.ensures.given reads are
     (λ honest. (subst (λ fs. AreSaid fs c.bind_modules.new.registry c.args.handles.now reads) (sym c.in-Ok.ensures.stays.same) (its honest).0, (its honest).1)) empty))
 
@@ -37,10 +37,10 @@ returns-in-Err-fill_modules-clause-given g c = λ rest old meant start le is acc
     (g.S.Store.failures c.fill_modules.new.store) old meant (answer_in (of_fault failure.place failure.fault))
     (fold without_module (in_world (with_handles rest h) c.bind_modules.new.registry) c.args.handles.now))
     (sym c.in-Err-fill_modules.ensures.rest)
-    (unfilled_held g.S.Store.is_honest (g.S.Store.files c.args.store.now) start
-    (g.S.Store.failures c.fill_modules.new.store) old meant c.args.handles.now
-    (in_world (with_handles rest c.args.global.now.handles) c.args.registry.now) us is accepted
-    c.bind_modules.new.registry bound.0 bound.1 bound.2 bound.3
-    (g.S.Store.failures c.bind_modules.new.store) (omega (arith, le, c.in-Ok.ensures.stays.counted)) failure.place failure.fault c.fill_modules.new.global.handles.heap
+    (unfilled_held _ _ start
+    _ old meant _
+    _ us is accepted
+    _ bound.0 bound.1 bound.2 bound.3
+    _ (omega (arith, le, c.in-Ok.ensures.stays.counted)) _ _ _
     (λ reads are its empty. c.in-Err-fill_modules.ensures.given reads are
     (λ honest. (subst (λ fs. AreSaid fs c.bind_modules.new.registry c.args.handles.now reads) (sym c.in-Ok.ensures.stays.same) (its honest).0, (its honest).1)) empty))

@@ -7,5 +7,5 @@ use Rattle.w16_loader.proofs.loading.load_again.Goals as goal
 pub returns : goal.returns
 returns g c = λ rest.
     ap (λ b. used_again b (in_world rest c.args.registry.now) c.args.handle (finmap.get c.args.registry.now c.args.handle)) c.if-not-is_load_module.false
-    ∙ once (in_world rest c.args.registry.now) c.args.handle (finmap.get c.args.registry.now c.args.handle) (sym c.is_application.ensures ∙ c.if-is_application.false)
+    ∙ once (in_world rest _) c.args.handle (finmap.get _ _) (sym c.is_application.ensures ∙ c.if-is_application.false)
     ∙ c.count_use-2.ensures rest

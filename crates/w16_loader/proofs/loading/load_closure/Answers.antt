@@ -7,28 +7,28 @@ use Rattle.w16_loader.proofs.loading.load_closure.Goals as goal
 pub index-requires : goal.index-requires
 index-requires g c =
     let rest : LoadingWorld = record { handles = c.args.global.now.handles; modules = c.args.registry.now; loads = finmap.empty; files = []; failures = 0 } in
-    let some : 0 < length c.in-Ok.handles.items = some_handles c.args.closure rest (in_world (with_handles rest c.name_modules.new.global.handles) c.name_modules.new.registry) c.in-Ok.handles.items
-    (c.in-Ok.ensures.named rest (closed_in [] c.args.closure) (is_closure [] c.args.closure)) c.requires.some in
+    let some = some_handles c.args.closure rest (in_world (with_handles rest _) _) c.in-Ok.handles.items
+    (c.in-Ok.ensures.named rest _ (is_closure [] _)) c.requires.some in
     omega (arith, some)
 
 pub returns-in-Ok-give-clause-loads : goal.returns-in-Ok-give-clause-loads
 returns-in-Ok-give-clause-loads g c = λ rest meant start le is accepted.
-    let old = in_world (with_handles rest c.args.global.now.handles) c.args.registry.now in
-    let mid = in_world (with_handles rest c.name_modules.new.global.handles) c.name_modules.new.registry in
+    let old = in_world (with_handles rest _) _ in
+    let mid = in_world (with_handles rest _) _ in
     let us : AreUnbound old meant c.as_slice.result.now mid = λ found alike.
-    subst (λ hs. IsUnbound old (record meant { found = found }) hs mid) (sym c.as_slice.ensures.value) (c.in-Ok.ensures.named rest (record meant { found = found }) (closure_alike c.args.closure meant found is alike)) in
-    let some : 0 < length c.in-Ok.handles.items = some_handles c.args.closure old mid c.in-Ok.handles.items (c.in-Ok.ensures.named rest (closed_in [] c.args.closure) (is_closure [] c.args.closure)) c.requires.some in
-    let same : slice_index_or c.as_slice.result.now 0 0 ≡ c.index.result.now = ap (λ hs. slice_index_or hs 0 0) c.as_slice.ensures.value ∙ first_of c.in-Ok.handles.items c.index.result.now some c.index.ensures in
+    subst (λ hs. IsUnbound old (record meant { found = found }) hs mid) (sym c.as_slice.ensures.value) (c.in-Ok.ensures.named rest (record meant { found = found }) (closure_alike _ meant found is alike)) in
+    let some = some_handles c.args.closure old mid c.in-Ok.handles.items (c.in-Ok.ensures.named rest _ (is_closure [] _)) c.requires.some in
+    let same = ap (λ hs. slice_index_or hs 0 0) c.as_slice.ensures.value ∙ first_of c.in-Ok.handles.items _ some c.index.ensures in
     subst (λ h. LoadsHeld g.S.Store.is_honest (g.S.Store.files c.args.store.now) start (g.S.Store.failures c.give.new.store) old meant (Says h) (in_world (with_handles rest c.give.new.global.handles) c.give.new.registry)) same
     (c.in-Ok-give.ensures.given rest old meant start le c.reveal_handles.ensures accepted us)
 
 pub returns-clause-loads : goal.returns-clause-loads
 returns-clause-loads g c = λ rest meant start le is accepted.
-    let old = in_world (with_handles rest c.args.global.now.handles) c.args.registry.now in
-    let mid = in_world (with_handles rest c.name_modules.new.global.handles) c.name_modules.new.registry in
+    let old = in_world (with_handles rest _) _ in
+    let mid = in_world (with_handles rest _) _ in
     let us : AreUnbound old meant c.as_slice.result.now mid = λ found alike.
-    subst (λ hs. IsUnbound old (record meant { found = found }) hs mid) (sym c.as_slice.ensures.value) (c.in-Ok.ensures.named rest (record meant { found = found }) (closure_alike c.args.closure meant found is alike)) in
-    let given = in_world (with_handles rest c.give.new.global.handles) c.give.new.registry in
+    subst (λ hs. IsUnbound old (record meant { found = found }) hs mid) (sym c.as_slice.ensures.value) (c.in-Ok.ensures.named rest (record meant { found = found }) (closure_alike _ meant found is alike)) in
+    let given = in_world (with_handles rest _) c.give.new.registry in
     let gone = c.release_modules.ensures.gone rest ∙ ap (λ hs. fold without_module given hs) (c.as_slice-in-Err.ensures.value ∙ sym c.as_slice.ensures.value) in
     subst (λ r. IfOk r (λ answer. LoadsHeld g.S.Store.is_honest (g.S.Store.files c.args.store.now) start (g.S.Store.failures c.give.new.store) old meant (answer_in answer) (in_world (with_handles rest c.release_modules.new.global.handles) c.release_modules.new.registry))) (sym c.fail.ensures.answer)
     (subst (λ w. IfOk (failed_by c.in-Err.fault) (λ answer. LoadsHeld g.S.Store.is_honest (g.S.Store.files c.args.store.now) start (g.S.Store.failures c.give.new.store) old meant (answer_in answer) w)) (sym gone) (c.in-Err.ensures.given rest old meant start le c.reveal_handles.ensures accepted us))
@@ -36,21 +36,21 @@ returns-clause-loads g c = λ rest meant start le is accepted.
 pub returns-in-Err-NoSlot-clause-loads : goal.returns-in-Err-NoSlot-clause-loads
 returns-in-Err-NoSlot-clause-loads g c = λ rest meant start le is accepted.
     let same = c.in-Err-NoSlot.ensures.same in
-    let world = ap (λ r. in_world (with_handles rest c.name_modules.new.global.handles) r) same.0 ∙ ap (λ (x : Global). in_world (with_handles rest x.handles) c.args.registry.now) same.1 in
-    let some = held_alike g.S.Store.is_honest (g.S.Store.files c.args.store.now) meant.found accepted in
-    (some.0, some.1, some.2, inl (inl (c.in-Err-NoSlot.ensures.no_slot (record meant { found = some.0 }) (closure_alike c.args.closure meant some.0 is some.1) c.in-Err-NoSlot.field-0-is, (refl, world))))
+    let world = ap (λ r. in_world (with_handles rest c.name_modules.new.global.handles) r) same.0 ∙ ap (λ x. in_world (with_handles rest x.handles) c.args.registry.now) same.1 in
+    let some = held_alike _ _ _ accepted in
+    (some.0, some.1, some.2, inl (inl (c.in-Err-NoSlot.ensures.no_slot (record meant { found = some.0 }) (closure_alike _ meant some.0 is some.1) c.in-Err-NoSlot.field-0-is, (refl, world))))
 
 pub returns-clause-err : goal.returns-clause-err
 returns-clause-err g c =
     let rest : LoadingWorld = record { handles = c.args.global.now.handles; modules = c.args.registry.now; loads = finmap.empty; files = []; failures = 0 } in
-    let mid = in_world (with_handles rest c.name_modules.new.global.handles) c.name_modules.new.registry in
-    let given = in_world (with_handles rest c.give.new.global.handles) c.give.new.registry in
+    let mid = in_world (with_handles rest _) c.name_modules.new.registry in
+    let given = in_world (with_handles rest _) c.give.new.registry in
     let meant = closed_in [] c.args.closure in
-    let u = subst (λ hs. IsUnbound rest meant hs mid) (sym c.as_slice.ensures.value) (c.in-Ok.ensures.named rest meant (is_closure [] c.args.closure)) in
+    let u = subst (λ hs. IsUnbound rest meant hs mid) (sym c.as_slice.ensures.value) (c.in-Ok.ensures.named rest meant (is_closure [] _)) in
     let gone = c.release_modules.ensures.gone rest ∙ ap (λ hs. fold without_module given hs) (c.as_slice-in-Err.ensures.value ∙ sym c.as_slice.ensures.value) in
     subst (λ r. OnErr r ((c.release_modules.new.registry ≡ c.args.registry.now) × (c.release_modules.new.global ≡ c.args.global.now))) (sym c.fail.ensures.answer)
     (err_by c.in-Err.fault ((c.release_modules.new.registry ≡ c.args.registry.now) × (c.release_modules.new.global ≡ c.args.global.now)) (λ none.
     let back = gone ∙ c.in-Err.ensures.undone rest rest meant c.reveal_handles.ensures u none in (
-      ap (λ (w : LoadingWorld). w.modules) back,
-      same_global c.release_modules.new.global c.args.global.now (ap (λ (w : LoadingWorld). w.handles) back) (c.release_modules.ensures.written ∙ c.in-Err.ensures.written none ∙ c.in-Ok.ensures.written),
+      ap (λ w. w.modules) back,
+      same_global c.release_modules.new.global c.args.global.now (ap (λ w. w.handles) back) (c.release_modules.ensures.written ∙ c.in-Err.ensures.written none ∙ c.in-Ok.ensures.written),
     )))

@@ -12,10 +12,10 @@ loop-reference-preserved g c =
     record {
       many = c.in_ok-push_at.ensures.many ∙ c.loop-reference.invariant.many;
       imports = λ place lt. import_more c.args.handles.now place c.args.bound.now c.loop-reference.reference-index _ (λ q. slice_index_or (map (λ v. v.items) c.loop-reference.made.items) q []) (λ q. slice_index_or (map (λ v. v.items) c.push_at.new.lists.items) q [])
-          (length c.loop-reference.made.items) c.handle_meant-handle.result inside (omega (arith, lt, c.loop-reference.invariant.many)) c.handle_meant-handle.ensures c.in_ok-push_at.ensures.here c.in_ok-push_at.ensures.others (c.loop-reference.invariant.imports place lt);
+          (length _) c.handle_meant-handle.result inside (omega (arith, lt, c.loop-reference.invariant.many)) c.handle_meant-handle.ensures c.in_ok-push_at.ensures.here c.in_ok-push_at.ensures.others (c.loop-reference.invariant.imports place lt);
     }
 
 pub returns-clause-imports : goal.returns-clause-imports
 returns-clause-imports g c = λ place lt.
     let all : length c.args.bound.now ≤ c.loop-reference.reference-index = omega arith in
-    subst (λ xs. slice_index_or (map (λ v. v.items) c.loop-reference.made.items) place [] ≡ imports_among c.args.handles.now (map bound_in xs) place) (take_all c.loop-reference.reference-index c.args.bound.now all) (c.loop-reference.invariant.imports place lt)
+    subst (λ xs. slice_index_or (map (λ v. v.items) c.loop-reference.made.items) place [] ≡ imports_among c.args.handles.now (map bound_in xs) place) (take_all _ _ all) (c.loop-reference.invariant.imports place lt)

@@ -12,23 +12,23 @@ counts false = refl
 
 pub name_module-requires-clause-free : goal.name_module-requires-clause-free
 name_module-requires-clause-free g c =
-    let t = YieldsList-turn (YieldsList-from_enumerate {s = c.into_iter-place-iterator.result} (YieldsList-from_vec c.args.found.items (first_of (cc, search rules)) (first_of (cc, search rules))) (first_of (cc, search rules)))
+    let t = YieldsList-turn (YieldsList-from_enumerate {s = c.into_iter-place-iterator.result} (YieldsList-from_vec _ (first_of (cc, search rules)) (first_of (cc, search rules))) (first_of (cc, search rules)))
     c.loop-place.yielded c.loop-place.place-iterator c.loop-place.yielded_by c.next.result c.next.new.self (c.in-Some.place, c.in-Some.found) c.in-Some.is c.next.ensures.steps in
-    let at = at_turn c.args.found.items (length c.loop-place.yielded) c.in-Some.place c.in-Some.found t.0 t.1 in
-    let lt : length c.loop-place.yielded < length c.args.found.items = at.0 in
-    let place : c.in-Some.place ≡ length c.loop-place.yielded = at.1 in
+    let at = at_turn c.args.found.items _ c.in-Some.place c.in-Some.found t.0 t.1 in
+    let lt = at.0 in
+    let place = at.1 in
     subst (λ k. C.IsFreeModule c.loop-place.registry (get_or c.args.handles.now k 0)) (sym place)
-    (M.next_free (in_world (with_handles some_world c.args.global.now.handles) c.args.registry.now) (in_world (with_handles some_world c.loop-place.global.handles) c.loop-place.registry) _ _ c.args.handles.now (length c.loop-place.yielded)
-    (omega (arith, lt, c.requires.handles)) c.requires.free c.requires.apart (c.loop-place.invariant.named some_world (map (C.found_in []) c.args.found.items) (M.as_found c.args.found.items)))
+    (M.next_free (in_world (with_handles some_world _) _) (in_world (with_handles some_world _) _) _ _ c.args.handles.now (length _)
+    (omega (arith, lt, c.requires.handles)) c.requires.free c.requires.apart (c.loop-place.invariant.named some_world (map _ _) (M.as_found _)))
 
 pub loop-place-preserved : goal.loop-place-preserved
 loop-place-preserved g c =
-    let t = YieldsList-turn (YieldsList-from_enumerate {s = c.into_iter-place-iterator.result} (YieldsList-from_vec c.args.found.items (first_of (cc, search rules)) (first_of (cc, search rules))) (first_of (cc, search rules)))
+    let t = YieldsList-turn (YieldsList-from_enumerate {s = c.into_iter-place-iterator.result} (YieldsList-from_vec _ (first_of (cc, search rules)) (first_of (cc, search rules))) (first_of (cc, search rules)))
     c.loop-place.yielded c.loop-place.place-iterator c.loop-place.yielded_by c.next.result c.next.new.self (c.in-Some.place, c.in-Some.found) c.in-Some.is c.next.ensures.steps in
-    let at = at_turn c.args.found.items (length c.loop-place.yielded) c.in-Some.place c.in-Some.found t.0 t.1 in
-    let lt : length c.loop-place.yielded < length c.args.found.items = at.0 in
-    let place : c.in-Some.place ≡ length c.loop-place.yielded = at.1 in
-    let here : C.slice_get c.args.found.items c.in-Some.place ≡ Some c.in-Some.found = ap (C.slice_get c.args.found.items) place ∙ at.2 in
+    let at = at_turn c.args.found.items (length _) c.in-Some.place c.in-Some.found t.0 t.1 in
+    let lt = at.0 in
+    let place = at.1 in
+    let here = ap (C.slice_get _) place ∙ at.2 in
     let more : c.in-Some.place + 1 ≡ length (c.loop-place.yielded ++ (c.in-Some.place, c.in-Some.found) ∷ []) = omega (arith, place, C.length_push c.loop-place.yielded (c.in-Some.place, c.in-Some.found)) in
     let room : c.in-Some.place < length c.loop-place.imports.items = omega (arith, place, lt, c.loop-place.invariant.many, c.requires.imports) in
     record {
@@ -42,8 +42,8 @@ loop-place-preserved g c =
           (c.from-uses.ensures ∙ counts _)
           (ap (λ v. v.items) (c.replace-imports.ensures.value ∙ c.index_mut.ensures.value) ∙ sym (C.get_or-map (λ v. v.items) c.loop-place.imports.items c.in-Some.place c.index_mut.result.now [] room)
           ∙ c.loop-place.invariant.imports c.in-Some.place (omega (arith, place)))
-          (in_world (with_handles rest c.args.global.now.handles) c.args.registry.now) (in_world (with_handles rest c.loop-place.global.handles) c.loop-place.registry)
-          (in_world (with_handles rest c.name_module.new.global.handles) c.name_module.new.registry) c.args.found.items meant c.args.handles.now all c.requires.handles (omega (arith, place, lt)) m.1 refl before (c.in-Ok.ensures.named rest));
+          (in_world (with_handles rest _) _) (in_world (with_handles rest _) _)
+          (in_world (with_handles rest _) _) c.args.found.items meant c.args.handles.now all c.requires.handles (omega (arith, place, lt)) m.1 refl before (c.in-Ok.ensures.named rest));
       imports = λ p le. pushed_other (λ v. v.items) c.loop-place.imports.items c.in-Some.place c.replace-imports.new.dest p (λ e. absurd (omega (arith, le, e, more))) ∙ c.loop-place.invariant.imports p (omega (arith, le, more, place));
       many = C.length-set c.loop-place.imports.items c.in-Some.place c.replace-imports.new.dest ∙ c.loop-place.invariant.many;
       written = c.name_module.ensures.written ∙ c.loop-place.invariant.written;
@@ -51,12 +51,12 @@ loop-place-preserved g c =
 
 pub slice_bounds-release_modules-end : goal.slice_bounds-release_modules-end
 slice_bounds-release_modules-end g c =
-    let t = YieldsList-turn (YieldsList-from_enumerate {s = c.into_iter-place-iterator.result} (YieldsList-from_vec c.args.found.items (first_of (cc, search rules)) (first_of (cc, search rules))) (first_of (cc, search rules)))
+    let t = YieldsList-turn (YieldsList-from_enumerate {s = c.into_iter-place-iterator.result} (YieldsList-from_vec _ (first_of (cc, search rules)) (first_of (cc, search rules))) (first_of (cc, search rules)))
     c.loop-place.yielded c.loop-place.place-iterator c.loop-place.yielded_by c.next.result c.next.new.self (c.in-Some.place, c.in-Some.found) c.in-Some.is c.next.ensures.steps in
-    let at = at_turn c.args.found.items (length c.loop-place.yielded) c.in-Some.place c.in-Some.found t.0 t.1 in
-    let lt : length c.loop-place.yielded < length c.args.found.items = at.0 in
-    let place : c.in-Some.place ≡ length c.loop-place.yielded = at.1 in
-    sym (C.length-take-le _ c.args.handles.now (omega (arith, lt, place, c.requires.handles)))
+    let at = at_turn c.args.found.items _ c.in-Some.place c.in-Some.found t.0 t.1 in
+    let lt = at.0 in
+    let place = at.1 in
+    sym (C.length-take-le _ _ (omega (arith, lt, place, c.requires.handles)))
 
 pub returns-in-Err-clause-same : goal.returns-in-Err-clause-same
 returns-in-Err-clause-same g c =
@@ -71,23 +71,23 @@ returns-in-Err-clause-same g c =
 
 pub returns-in-Err-clause-no_slot : goal.returns-in-Err-clause-no_slot
 returns-in-Err-clause-no_slot g c = λ meant all e.
-    let t = YieldsList-turn (YieldsList-from_enumerate {s = c.into_iter-place-iterator.result} (YieldsList-from_vec c.args.found.items (first_of (cc, search rules)) (first_of (cc, search rules))) (first_of (cc, search rules)))
+    let t = YieldsList-turn (YieldsList-from_enumerate {s = c.into_iter-place-iterator.result} (YieldsList-from_vec _ (first_of (cc, search rules)) (first_of (cc, search rules))) (first_of (cc, search rules)))
     c.loop-place.yielded c.loop-place.place-iterator c.loop-place.yielded_by c.next.result c.next.new.self (c.in-Some.place, c.in-Some.found) c.in-Some.is c.next.ensures.steps in
-    let at = at_turn c.args.found.items (length c.loop-place.yielded) c.in-Some.place c.in-Some.found t.0 t.1 in
+    let at = at_turn _ _ c.in-Some.place c.in-Some.found t.0 t.1 in
     M.too_few_slots c.args.global.now.handles c.loop-place.global.handles c.args.registry.now c.loop-place.registry (unbound_by (λ p. get_or (map (λ v. v.items) c.args.imports.now.items) p [])) c.args.found.items meant c.args.handles.now
-    (length c.loop-place.yielded) c.in-Some.found at.2 all c.requires.handles at.0 (c.loop-place.invariant.named some_world meant all) (c.in-Err.ensures.no_slot e)
+    _ _ at.2 all c.requires.handles at.0 (c.loop-place.invariant.named some_world meant all) (c.in-Err.ensures.no_slot e)
 
 pub returns-clause-named : goal.returns-clause-named
 returns-clause-named g c = λ rest meant all.
     let end = C.YieldsList-end (YieldsList-from_enumerate {s = c.into_iter-place-iterator.result} (YieldsList-from_vec c.args.found.items (first_of (cc, search rules)) (first_of (cc, search rules))) (first_of (cc, search rules)))
     c.loop-place.yielded c.loop-place.place-iterator c.loop-place.yielded_by c.next.result c.next.new.self c.in-None.is c.next.ensures.steps in
-    let long : length c.loop-place.yielded ≡ length (C.enumerate_from 0 c.args.found.items) = end.1 in
+    let long = end.1 in
     M.all_are_named (in_world (with_handles rest c.args.global.now.handles) c.args.registry.now) (in_world (with_handles rest c.loop-place.global.handles) c.loop-place.registry) _ c.args.found.items meant c.args.handles.now (length c.loop-place.yielded)
     all c.requires.handles (omega (arith, long, C.length-enumerate_from 0 c.args.found.items)) (c.loop-place.invariant.named rest meant all)
 
 pub bounds-handles-place : goal.bounds-handles-place
 bounds-handles-place g c =
-    let t = YieldsList-turn (YieldsList-from_enumerate {s = c.into_iter-place-iterator.result} (YieldsList-from_vec c.args.found.items (first_of (cc, search rules)) (first_of (cc, search rules))) (first_of (cc, search rules)))
+    let t = YieldsList-turn (YieldsList-from_enumerate {s = c.into_iter-place-iterator.result} (YieldsList-from_vec _ (first_of (cc, search rules)) (first_of (cc, search rules))) (first_of (cc, search rules)))
     c.loop-place.yielded c.loop-place.place-iterator c.loop-place.yielded_by c.next.result c.next.new.self (c.in-Some.place, c.in-Some.found) c.in-Some.is c.next.ensures.steps in
-    let at = at_turn c.args.found.items (length c.loop-place.yielded) c.in-Some.place c.in-Some.found t.0 t.1 in
+    let at = at_turn c.args.found.items (length _) c.in-Some.place c.in-Some.found t.0 t.1 in
     omega (arith, at.0, at.1, c.requires.handles)

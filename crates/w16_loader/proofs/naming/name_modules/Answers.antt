@@ -4,7 +4,7 @@ use Rattle.w16_loader.proofs.{FreeHandles.lowest_free, FreeHandles.lowest_apart,
 use Rattle.w16_loader.proofs.naming.name_modules.Goals as goal
 
 pub name_all-requires-clause-free : goal.name_all-requires-clause-free
-name_all-requires-clause-free g c = subst (All (IsFreeModule c.args.registry.now)) (sym c.as_slice-3.ensures.value) (lowest_free c.args.registry.now _ c.in-Ok.handles.items c.in-Ok.ensures.lowest)
+name_all-requires-clause-free g c = subst (All (IsFreeModule _)) (sym c.as_slice-3.ensures.value) (lowest_free c.args.registry.now _ c.in-Ok.handles.items c.in-Ok.ensures.lowest)
 
 pub name_all-requires-clause-apart : goal.name_all-requires-clause-apart
 name_all-requires-clause-apart g c = subst (AllPairs ◌≢◌) (sym c.as_slice-3.ensures.value) (lowest_apart c.args.registry.now _ c.in-Ok.handles.items c.in-Ok.ensures.lowest)
@@ -12,14 +12,14 @@ name_all-requires-clause-apart g c = subst (AllPairs ◌≢◌) (sym c.as_slice-
 pub returns-in-Ok-name_all-clause-named : goal.returns-in-Ok-name_all-clause-named
 returns-in-Ok-name_all-clause-named g c = λ rest meant is.
     let few : c.len.result ≤ free_modules c.args.registry.now = omega (arith, c.len.ensures, c.requires) in
-    let many : length c.in-Ok.handles.items ≡ c.len.result = c.in-Ok.ensures.many few in
-    let found : length c.args.closure.found.items ≡ length meant.found = as_many c.args.closure.found.items meant.found is.found in
+    let many = c.in-Ok.ensures.many few in
+    let found = as_many c.args.closure.found.items meant.found is.found in
     let same : length c.in-Ok.handles.items ≡ length meant.found = omega (arith, many, found, c.len.ensures) in
-    unbound_named (in_world (with_handles rest c.args.global.now.handles) c.args.registry.now) (in_world (with_handles rest c.name_all.new.global.handles) c.name_all.new.registry) meant c.in-Ok.handles.items
-    (λ p. get_or (map (λ v. v.items) c.in-Ok-imports_of.imports.items) p []) same (lowest_free c.args.registry.now _ c.in-Ok.handles.items c.in-Ok.ensures.lowest) (lowest_apart c.args.registry.now _ c.in-Ok.handles.items c.in-Ok.ensures.lowest)
+    unbound_named (in_world (with_handles rest _) _) (in_world (with_handles rest _) _) meant c.in-Ok.handles.items
+    (λ p. get_or (map (λ v. v.items) c.in-Ok-imports_of.imports.items) p []) same (lowest_free _ _ _ c.in-Ok.ensures.lowest) (lowest_apart c.args.registry.now _ _ c.in-Ok.ensures.lowest)
     (λ p lt. c.in-Ok-imports_of.ensures.imports p (omega (arith, lt, same, ap length c.as_slice-2.ensures.value))
     ∙ ap (λ hs. imports_among hs (map bound_in c.as_slice.result.now) p) c.as_slice-2.ensures.value
     ∙ ap (λ bs. imports_among c.in-Ok.handles.items (map bound_in bs) p) c.as_slice.ensures.value
     ∙ ap (λ bs. imports_among c.in-Ok.handles.items bs p) (sym is.bound))
     (subst (λ hs. GetNames (in_world (with_handles rest c.args.global.now.handles) c.args.registry.now) (unbound_by (λ p. get_or (map (λ v. v.items) c.in-Ok-imports_of.imports.items) p [])) meant.found hs
-    (in_world (with_handles rest c.name_all.new.global.handles) c.name_all.new.registry)) c.as_slice-3.ensures.value (c.in-Ok-name_all.ensures.named rest meant.found is.found))
+    (in_world (with_handles rest c.name_all.new.global.handles) c.name_all.new.registry)) c.as_slice-3.ensures.value (c.in-Ok-name_all.ensures.named rest _ is.found))

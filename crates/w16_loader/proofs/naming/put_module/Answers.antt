@@ -5,4 +5,4 @@ use Rattle.w16_loader.proofs.naming.put_module.Goals as goal
 pub returns-in-Err-clause-gone : goal.returns-in-Err-clause-gone
 returns-in-Err-clause-gone g c = λ rest.
     c.release_slots.ensures.gone rest
-    ∙ ap (λ (qs : List ℕ). without_objects (λ q. is_member q qs) (with_handles rest c.args.global.now.handles)) (c.slots.ensures.slots ∙ ap (λ (m : Module). m.slots) c.in-Err.ensures.value_returned)
+    ∙ ap (λ qs. without_objects (λ q. is_member q qs) (with_handles rest c.args.global.now.handles)) (c.slots.ensures.slots ∙ ap (λ m. m.slots) c.in-Err.ensures.value_returned)

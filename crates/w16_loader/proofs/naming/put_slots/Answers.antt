@@ -12,43 +12,43 @@ loop-i-preserved g c =
     let here : C.slice_get (map segment_in c.args.module_file.now.segments) c.loop-i.i ≡ Some (segment_in c.segment.result) =
     C.slice_get-map segment_in c.args.module_file.now.segments c.loop-i.i ∙ ap (λ k. C.option_map segment_in (C.slice_get c.args.module_file.now.segments k)) (sym place) ∙ ap (C.option_map segment_in) c.segment.ensures.found in
     record {
-      taken = λ rest. slot_more c.loop-i.slots (map segment_in c.args.module_file.now.segments) c.loop-i.i c.in-Some.slot (segment_in c.segment.result) (with_handles rest c.args.global.now.handles) (with_handles rest c.loop-i.global.handles)
-          (with_handles rest c.take_slot.new.global.handles) lt here (c.loop-i.invariant.taken rest) c.in-Some.ensures.free (c.in-Some.ensures.taken rest);
-      few = few_more c.loop-i.slots c.loop-i.i c.in-Some.slot lt c.loop-i.invariant.few c.in-Some.ensures.few;
-      fit = fit_more (map segment_in c.args.module_file.now.segments) c.loop-i.i (segment_in c.segment.result) here c.loop-i.invariant.fit (fits c.segment.result c.segment.ensures.sized);
+      taken = λ rest. slot_more _ _ _ _ _ _ (with_handles rest _)
+          _ lt here (c.loop-i.invariant.taken rest) c.in-Some.ensures.free (c.in-Some.ensures.taken rest);
+      few = few_more _ _ _ lt c.loop-i.invariant.few c.in-Some.ensures.few;
+      fit = fit_more _ _ _ here c.loop-i.invariant.fit (fits c.segment.result c.segment.ensures.sized);
       written = c.take_slot.ensures.written ∙ c.loop-i.invariant.written;
     }
 
 pub returns-in-None-clause-same : goal.returns-in-None-clause-same
 returns-in-None-clause-same g c = λ f.
     let lt : c.loop-i.i < length c.loop-i.slots = omega arith in
-    let some : length (take c.loop-i.i c.loop-i.slots) ≡ c.loop-i.i = C.length-take-le c.loop-i.i c.loop-i.slots (omega (arith, lt)) in
-    let many : length (map segment_in c.args.module_file.now.segments) ≡ length c.args.module_file.now.segments = length-map c.args.module_file.now.segments segment_in in
-    same_global c.release_slots.new.global c.args.global.now
-    (all_back c.args.global.now.handles c.loop-i.global.handles c.release_slots.new.global.handles (take c.loop-i.i c.loop-i.slots) (map segment_in c.args.module_file.now.segments) c.reveal_handles.ensures (omega (arith, some, many)) c.loop-i.invariant.taken
-    (λ rest. c.release_slots.ensures.gone rest ∙ ap (λ (x : C.Global). C.without_objects (λ q. C.is_member q (take c.loop-i.i c.loop-i.slots)) (with_handles rest x.handles)) c.in-None.ensures.none.1))
+    let some = C.length-take-le c.loop-i.i c.loop-i.slots (omega (arith, lt)) in
+    let many = length-map c.args.module_file.now.segments segment_in in
+    same_global _ _
+    (all_back _ c.loop-i.global.handles _ (take _ _) (map _ _) c.reveal_handles.ensures (omega (arith, some, many)) c.loop-i.invariant.taken
+    (λ rest. c.release_slots.ensures.gone rest ∙ ap (λ x. C.without_objects (λ q. C.is_member q (take c.loop-i.i c.loop-i.slots)) (with_handles rest x.handles)) c.in-None.ensures.none.1))
     (c.release_slots.ensures.written ∙ c.take_slot.ensures.written ∙ c.loop-i.invariant.written)
 
 pub returns-in-None-clause-no_slot : goal.returns-in-None-clause-no_slot
 returns-in-None-clause-no_slot g c = λ f.
     let lt : c.loop-i.i < length c.loop-i.slots = omega arith in
-    let some : length (take c.loop-i.i c.loop-i.slots) ≡ c.loop-i.i = C.length-take-le c.loop-i.i c.loop-i.slots (omega (arith, lt)) in
-    let many : length (map segment_in c.args.module_file.now.segments) ≡ length c.args.module_file.now.segments = length-map c.args.module_file.now.segments segment_in in
+    let some = C.length-take-le c.loop-i.i c.loop-i.slots (omega (arith, lt)) in
+    let many = length-map _ segment_in in
     subst (λ n. length (C.free_slots c.args.global.now.handles) < n) many
-    (too_few c.args.global.now.handles c.loop-i.global.handles (take c.loop-i.i c.loop-i.slots) (map segment_in c.args.module_file.now.segments) (omega (arith, some, many)) c.loop-i.invariant.taken c.in-None.ensures.none.0)
+    (too_few c.args.global.now.handles c.loop-i.global.handles (take _ _) _ (omega (arith, some, many)) c.loop-i.invariant.taken c.in-None.ensures.none.0)
 
 pub returns-clause-taken : goal.returns-clause-taken
 returns-clause-taken g c = λ t rest.
     let all : length c.loop-i.slots ≤ c.loop-i.i = omega arith in
-    subst (λ ss. Takes (with_handles rest c.args.global.now.handles) (zip ss (map segment_in c.args.module_file.now.segments)) (with_handles rest c.loop-i.global.handles)) (take_all c.loop-i.i c.loop-i.slots all) (c.loop-i.invariant.taken rest)
+    subst (λ ss. Takes (with_handles rest c.args.global.now.handles) (zip ss (map segment_in c.args.module_file.now.segments)) (with_handles rest c.loop-i.global.handles)) (take_all _ _ all) (c.loop-i.invariant.taken rest)
 
 pub returns-clause-few : goal.returns-clause-few
 returns-clause-few g c = λ t.
     let all : length c.loop-i.slots ≤ c.loop-i.i = omega arith in
-    subst (All (λ q. q < 8192)) (take_all c.loop-i.i c.loop-i.slots all) c.loop-i.invariant.few
+    subst (All (λ q. q < 8192)) (take_all _ _ all) c.loop-i.invariant.few
 
 pub returns-clause-fit : goal.returns-clause-fit
 returns-clause-fit g c = λ t.
-    let many : length (map segment_in c.args.module_file.now.segments) ≡ length c.args.module_file.now.segments = length-map c.args.module_file.now.segments segment_in in
+    let many = length-map c.args.module_file.now.segments segment_in in
     let all : length (map segment_in c.args.module_file.now.segments) ≤ c.loop-i.i = omega arith in
-    subst (All IsFit) (take_all c.loop-i.i (map segment_in c.args.module_file.now.segments) all) c.loop-i.invariant.fit
+    subst (All IsFit) (take_all _ _ all) c.loop-i.invariant.fit

@@ -12,16 +12,16 @@ returns-in_err-read-clause-given g c = λ lacks.
 
 pub returns-then-give-clause-given : goal.returns-then-give-clause-given
 returns-then-give-clause-given g c = λ lacks. filled _ _ _ _ _ _ c.reveal_handles.ensures.heap _ (λ bytes are sized. (
-  λ s there long. relocated _ c.bytes.result.now c.records.result.now c.args.source.now.values.now bytes s.size are (rw (← c.bytes.ensures, ← c.records.ensures) at c.in_ok-read.ensures.sound)
+  λ s there long. relocated _ _ _ _ bytes s.size are (rw (← c.bytes.ensures, ← c.records.ensures) at c.in_ok-read.ensures.sound)
       (rw (← c.bytes.ensures) at c.in_ok-read.ensures.room s there) long,
   λ s.
-      let read = c.in_ok-read.ensures.exact s.file s.sound.segment s.sound.held s.truly s.stored s.sound.tables s.sound.there s.sound.passed s.sound.many in
+      let read = c.in_ok-read.ensures.exact s.file s.sound.segment _ s.truly s.stored s.sound.tables s.sound.there s.sound.passed s.sound.many in
       written_image _ _ _ _ s.sound c.args.global.now.handles (c.args.handle / 8) s.sized c.bytes.result.now c.records.result.now (c.bytes.ensures ∙ (λ i. (read i).bytes)) (c.records.ensures ∙ (λ i. (read i).records)) bytes are sized,
-)) c.give.new.global.handles (c.if-give.ensures.given refl)
+)) _ (c.if-give.ensures.given refl)
 
 pub returns-else-give-clause-given : goal.returns-else-give-clause-given
 returns-else-give-clause-given g c = λ lacks.
-    subst (λ (x : Global). GivesSegment g.S.Store.is_honest (g.S.Store.files c.args.store.now) c.args.source.now.file.now c.args.source.now.module.now c.args.source.now.number c.args.source.now.values.now
+    subst (λ x. GivesSegment g.S.Store.is_honest (g.S.Store.files c.args.store.now) c.args.source.now.file.now c.args.source.now.module.now c.args.source.now.number c.args.source.now.values.now
     (g.S.Store.failures c.args.store.now) (g.S.Store.failures c.read.new.store) c.args.global.now.handles (c.args.handle / 8) (Some NoRoom) x.handles)
     (sym (c.if-give.ensures.refused refl)) (full _ _ _ _ _ _ c.reveal_handles.ensures.heap lacks.owned lacks.without_bytes (c.if-give.ensures.lacks refl lacks))
 
@@ -34,4 +34,4 @@ returns-then-give-clause-rest g c = (c.if-give.ensures.given refl).rest
 pub returns-else-give-clause-rest : goal.returns-else-give-clause-rest
 returns-else-give-clause-rest g c =
     let same = c.if-give.ensures.refused refl in
-    ap (λ (x : Global). x.handles) same ∙ ap (λ (h : Handles). record c.args.global.now.handles { heap = h.heap }) (sym (ap (λ (x : Global). x.handles) same))
+    ap (λ x. x.handles) same ∙ ap (λ h. record c.args.global.now.handles { heap = h.heap }) (sym (ap (λ x. x.handles) same))

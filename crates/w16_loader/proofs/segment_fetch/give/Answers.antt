@@ -9,4 +9,4 @@ with_bytes-requires g c = revived_bytes _ _ (c.if-not-revive.ensures.named refl)
 pub returns-clause-given : goal.returns-clause-given
 returns-clause-given g c = λ t.
     given_bytes _ _ (c.if-not-revive.ensures.named refl).without_bytes c.revive.new.self.handles (c.if-not-revive.ensures.revived refl) c.with_bytes.new.self.handles _ _ c.with_bytes.ensures.0 c.with_bytes.ensures.0.does.1
-    (ap (λ (x : Global). x.handles) c.with_bytes.ensures.1)
+    (ap (λ x. x.handles) c.with_bytes.ensures.1)

@@ -7,4 +7,4 @@ put_back : {X : Type 0} (old taken new : List X) (place : ℕ) (x none : X) → 
 put_back old taken new place x none is was same = is ∙ ap (λ l. set l place x) was ∙ set-set old place none x ∙ ap (set old place) same ∙ set-get_or old place none
 
 pub returns-in-Some-clause-none : goal.returns-in-Some-clause-none
-returns-in-Some-clause-none g c = put_back c.args.entries.now c.take.new.self c.put.new.self c.args.place (Some c.in-Some.other) None c.put.ensures c.take.ensures.left c.in-Some.ensures.taken
+returns-in-Some-clause-none g c = put_back _ c.take.new.self _ c.args.place (Some _) None c.put.ensures c.take.ensures.left c.in-Some.ensures.taken

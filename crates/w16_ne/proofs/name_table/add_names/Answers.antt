@@ -53,7 +53,7 @@ loop-preserved g c = (
       let next : c.saturating_add-place.result ≡ c.loop.place + size x = omega (arith, c.saturating_add-place.ensures, c.from.ensures, c.ranges.len.fits, long, ends) in
       let entry : (c.part-text.result.now, found.ordinal) ≡ x = rw (c.part-text.ensures.value, c.as_slice.ensures.value, c.from-in-Some.ensures) refl in (
         l.0 ++ x ∷ [],
-        subst (λ (e : Entry). IsListing before (l.0 ++ e ∷ []) c.add.new.self) entry (c.in_ok-add-in-Some.ensures.ok before l.0 l.1),
+        subst (λ e. IsListing before (l.0 ++ e ∷ []) c.add.new.self) entry (c.in_ok-add-in-Some.ensures.ok before l.0 l.1),
         rw next (goes_on file l.0 c.args.len c.loop.counter c.loop.place x _ c.loop-test.true said l.2),
       ),
 )

@@ -27,7 +27,7 @@ loop-preserved g c =
       λ before begun.
           let l = c.loop.invariant.1 before begun in (
             l.0 ++ here table at ∷ [],
-            subst (λ (e : Entry). IsListing before (l.0 ++ e ∷ []) c.add.new.self) entry (c.in_ok-add.ensures.ok before l.0 l.1),
+            subst (λ e. IsListing before (l.0 ++ e ∷ []) c.add.new.self) entry (c.in_ok-add.ensures.ok before l.0 l.1),
             rw c.from-len.ensures (goes_on table l.0 (length table) c.loop.counter at _ c.loop-test.true (sym c.is_end.ensures.end ∙ c.if-is_end.false) inside l.2),
           ),
     )

@@ -27,7 +27,7 @@ returns-clause-exact g c = λ honest.
     let nonresident = exact_nonresident _ honest c.new-listing.ensures in
     let exact_resources = rw (s5, c.in_ok-resources.ensures.ok) at c.resources.ensures.exact in
     let resources = exact_resources honest in
-    rw (segments, resident.1, references, entries, nonresident.1, resources) (ap (λ (t : Tables). Ok t)
+    rw (segments, resident.1, references, entries, nonresident.1, resources) (ap (λ t. Ok t)
     (same_tables _ resident.0 nonresident.0 _ resident.2.first nonresident.2.first resident.2.names nonresident.2.names c.len-resident.ensures.len))
 
 pub returns-clause-part : goal.returns-clause-part

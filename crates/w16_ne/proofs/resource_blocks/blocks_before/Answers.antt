@@ -28,7 +28,7 @@ pub loop-preserved : goal.loop-preserved
 loop-preserved g c = (
   c.in_ok-block_of.ensures.stays.same ∙ c.loop.invariant.0,
   omega (arith, c.loop.invariant.1, c.in_ok-block_of.ensures.stays.counted),
-  rw c.in_ok-push-in-Some.ensures.items (All-push (λ (b : Block). end_of b ≤ c.args.len) c.loop.blocks.items c.in-Some.found c.loop.invariant.2 (rw c.in-Some.is at c.in_ok-block_of.ensures.ends)),
+  rw c.in_ok-push-in-Some.ensures.items (All-push (λ b. end_of b ≤ c.args.len) c.loop.blocks.items c.in-Some.found c.loop.invariant.2 (rw c.in-Some.is at c.in_ok-block_of.ensures.ends)),
   λ honest known. rw c.loop.invariant.0 at c.in_ok-block_of.ensures.kept honest (c.loop.invariant.3 honest known),
   λ honest known.
       let file = file_of (g.S.Store.files c.args.store.now) c.args.name.now in

@@ -9,7 +9,7 @@ returns-in_ok-push-clause-exact g c = λ table shift honest piece texts are.
     let kind = c.in_ok-test_label.ensures.exact file table texts in
     let said = c.in_ok-add_rows.ensures.exact table shift honest piece texts in
     let group : Group = record { kind = c.args.block.kind; count = c.args.block.count } in
-    let some : 0 < group.count = c.if-block-gt0.true in
+    let some = c.if-block-gt0.true in
     let all = block_added c.args.texts.now shift c.args.rows.now.groups.items c.args.rows.now.rows.items c.add_rows.new.rows.items said.0 are.counted said.2 group some c.in_ok-add_rows.ensures.added in
     ((label_in c.args.texts.now group.kind, said.0), rw (kind, said.1) refl, rw c.in_ok-push.ensures.items all)
 

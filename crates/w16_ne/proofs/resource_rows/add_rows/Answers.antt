@@ -22,7 +22,7 @@ loop-i-preserved g c =
     let file = file_of (g.S.Store.files c.args.store.now) c.args.name.now in
     let texts = c.args.texts.now in
     let l = c.loop-i.invariant.3 in
-    let row : Row = c.in_ok-row.row in (
+    let row = c.in_ok-row.row in (
       c.in_ok-row.ensures.stays.same ∙ c.loop-i.invariant.0,
       omega (arith, c.loop-i.invariant.1, c.in_ok-row.ensures.stays.counted),
       λ honest piece. (let kept = rw c.loop-i.invariant.0 at c.in_ok-row.ensures.kept in kept honest (c.loop-i.invariant.2 honest piece)),
@@ -30,7 +30,7 @@ loop-i-preserved g c =
         l.0 ++ row ∷ [],
         c.in_ok-push.ensures.items ∙ ap (λ rs. rs ++ row ∷ []) l.1 ∙ simp C.append_assoc,
         omega (arith, l.2, C.length-append l.0 (row ∷ [])),
-        C.All-push (λ (r : Row). C.HasLabel texts r.id) l.0 row l.3 c.in_ok-row.ensures.inside,
+        C.All-push (λ r. C.HasLabel texts r.id) l.0 row l.3 c.in_ok-row.ensures.inside,
         λ table shift honest piece known.
             let item : ℕ → Reading Entry = λ i. resource_at file table shift (c.args.block.at + 12 * i) in
             let exact = rw (c.from.ensures, c.loop-i.invariant.0) at c.in_ok-row.ensures.exact in

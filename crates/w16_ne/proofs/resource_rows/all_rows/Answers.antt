@@ -44,7 +44,7 @@ loop-block-preserved g c = (
       let l = c.loop-block.invariant.4 table shift honest known texts in
       let x = said.0 in (
         l.0 ++ x ∷ [],
-        said.2 ∙ ap (λ ts. ts ++ C.filled (x ∷ [])) l.1 ∙ sym (C.filter-append (λ (t : Typed). C.nat_lt 0 (length t.1)) l.0 (x ∷ [])),
+        said.2 ∙ ap (λ ts. ts ++ C.filled (x ∷ [])) l.1 ∙ sym (C.filter-append (λ t. C.nat_lt 0 (length t.1)) l.0 (x ∷ [])),
         goes_on file table shift c.args.blocks.now c.loop-block.block-index l.0 _ _ x c.loop-block-test.true said.1 l.2,
       ),
 )

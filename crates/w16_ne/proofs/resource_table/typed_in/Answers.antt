@@ -11,13 +11,13 @@ returns-then-are_too_many-clause-exact g c = λ honest known.
     let groups = c.in_ok-rows.rows.groups.items in
     let rows = c.in_ok-rows.rows.rows.items in
     let fits : nat_lt 15 shift ≡ false = grind (arith, nat_tests, c.if-shift-gt15.false) in
-    let there : texts_behind file c.args.table ≡ Ok t = c.in_ok-texts.ensures.exact honest ∙ ap (λ xs. Ok xs) (sym c.as_slice.ensures.value) in
+    let there = c.in_ok-texts.ensures.exact honest ∙ ap (λ xs. Ok xs) (sym c.as_slice.ensures.value) in
     let exact = rw c.in_ok-texts.ensures.stays.same at c.in_ok-rows.ensures.exact in
     let l = exact c.args.table shift honest known there in
-    let counted : total groups ≡ length rows = c.in_ok-rows.ensures.whole.counted in
-    let count : resource_count l.0 ≡ length rows = sym (count_filled l.0) ∙ ap resource_count (sym l.2) ∙ count_grouped t shift groups rows counted in
-    let same : nat_lt 65535 (length c.as_slice-2.result.now) ≡ nat_lt 65535 (resource_count l.0) = ap (λ rs. nat_lt 65535 (length rs)) c.as_slice-2.ensures.value ∙ ap (λ n. nat_lt 65535 n) (sym count) in
-    let many : nat_lt 65535 (resource_count l.0) ≡ true = sym same ∙ sym c.are_too_many.ensures ∙ c.if-are_too_many.true in
+    let counted = c.in_ok-rows.ensures.whole.counted in
+    let count = sym (count_filled l.0) ∙ ap resource_count (sym l.2) ∙ count_grouped t shift groups rows counted in
+    let same = ap (λ rs. nat_lt 65535 (length rs)) c.as_slice-2.ensures.value ∙ ap (λ n. nat_lt 65535 n) (sym count) in
+    let many = sym same ∙ sym c.are_too_many.ensures ∙ c.if-are_too_many.true in
     rw (fits, l.1, many) refl
 
 pub returns-in_err-test_places-clause-exact : goal.returns-in_err-test_places-clause-exact
@@ -29,13 +29,13 @@ returns-in_err-test_places-clause-exact g c = λ honest known.
     let groups = c.in_ok-rows.rows.groups.items in
     let rows = c.in_ok-rows.rows.rows.items in
     let fits : nat_lt 15 shift ≡ false = grind (arith, nat_tests, c.if-shift-gt15.false) in
-    let there : texts_behind file c.args.table ≡ Ok t = c.in_ok-texts.ensures.exact honest ∙ ap (λ xs. Ok xs) (sym c.as_slice.ensures.value) in
+    let there = c.in_ok-texts.ensures.exact honest ∙ ap (λ xs. Ok xs) (sym c.as_slice.ensures.value) in
     let exact = rw c.in_ok-texts.ensures.stays.same at c.in_ok-rows.ensures.exact in
     let l = exact c.args.table shift honest known there in
-    let counted : total groups ≡ length rows = c.in_ok-rows.ensures.whole.counted in
-    let count : resource_count l.0 ≡ length rows = sym (count_filled l.0) ∙ ap resource_count (sym l.2) ∙ count_grouped t shift groups rows counted in
-    let same : nat_lt 65535 (length c.as_slice-2.result.now) ≡ nat_lt 65535 (resource_count l.0) = ap (λ rs. nat_lt 65535 (length rs)) c.as_slice-2.ensures.value ∙ ap (λ n. nat_lt 65535 n) (sym count) in
-    let few : nat_lt 65535 (resource_count l.0) ≡ false = sym same ∙ sym c.are_too_many.ensures ∙ c.if-are_too_many.false in
+    let counted = c.in_ok-rows.ensures.whole.counted in
+    let count = sym (count_filled l.0) ∙ ap resource_count (sym l.2) ∙ count_grouped t shift groups rows counted in
+    let same = ap (λ rs. nat_lt 65535 (length rs)) c.as_slice-2.ensures.value ∙ ap (λ n. nat_lt 65535 n) (sym count) in
+    let few = sym same ∙ sym c.are_too_many.ensures ∙ c.if-are_too_many.false in
     let placed : are_all_placed file (2 ^ shift) l.0 ≡ are_placed file (2 ^ shift) (map (entry_in t shift) c.as_slice-3.result.now) =
     sym (placed_filled file (2 ^ shift) l.0) ∙ ap (are_all_placed file (2 ^ shift)) (sym l.2) ∙ placed_grouped t shift file (2 ^ shift) groups rows counted
     ∙ ap (λ rs. are_placed file (2 ^ shift) (map (entry_in t shift) rs)) (sym c.as_slice-3.ensures.value) in
@@ -53,13 +53,13 @@ returns-clause-exact g c = λ honest known.
     let groups = c.in_ok-rows.rows.groups.items in
     let rows = c.in_ok-rows.rows.rows.items in
     let fits : nat_lt 15 shift ≡ false = grind (arith, nat_tests, c.if-shift-gt15.false) in
-    let there : texts_behind file c.args.table ≡ Ok t = c.in_ok-texts.ensures.exact honest ∙ ap (λ xs. Ok xs) (sym c.as_slice.ensures.value) in
+    let there = c.in_ok-texts.ensures.exact honest ∙ ap (λ xs. Ok xs) (sym c.as_slice.ensures.value) in
     let exact = rw c.in_ok-texts.ensures.stays.same at c.in_ok-rows.ensures.exact in
     let l = exact c.args.table shift honest known there in
-    let counted : total groups ≡ length rows = c.in_ok-rows.ensures.whole.counted in
-    let count : resource_count l.0 ≡ length rows = sym (count_filled l.0) ∙ ap resource_count (sym l.2) ∙ count_grouped t shift groups rows counted in
-    let same : nat_lt 65535 (length c.as_slice-2.result.now) ≡ nat_lt 65535 (resource_count l.0) = ap (λ rs. nat_lt 65535 (length rs)) c.as_slice-2.ensures.value ∙ ap (λ n. nat_lt 65535 n) (sym count) in
-    let few : nat_lt 65535 (resource_count l.0) ≡ false = sym same ∙ sym c.are_too_many.ensures ∙ c.if-are_too_many.false in
+    let counted = c.in_ok-rows.ensures.whole.counted in
+    let count = sym (count_filled l.0) ∙ ap resource_count (sym l.2) ∙ count_grouped t shift groups rows counted in
+    let same = ap (λ rs. nat_lt 65535 (length rs)) c.as_slice-2.ensures.value ∙ ap (λ n. nat_lt 65535 n) (sym count) in
+    let few = sym same ∙ sym c.are_too_many.ensures ∙ c.if-are_too_many.false in
     let placed : are_all_placed file (2 ^ shift) l.0 ≡ are_placed file (2 ^ shift) (map (entry_in t shift) c.as_slice-3.result.now) =
     sym (placed_filled file (2 ^ shift) l.0) ∙ ap (are_all_placed file (2 ^ shift)) (sym l.2) ∙ placed_grouped t shift file (2 ^ shift) groups rows counted
     ∙ ap (λ rs. are_placed file (2 ^ shift) (map (entry_in t shift) rs)) (sym c.as_slice-3.ensures.value) in

@@ -46,7 +46,7 @@ pair_of_spec 𝓤 𝓛 𝓜 𝓡 wired =
     qed 𝓛 (((‵ (flft κ q) ⊛ ‵ ftrue) ⊛ ‵ (owns (MutSlice (named 0) κ u8 ∷ usize ∷ usize ∷ usize ∷ usize ∷ []) a vss))
     ∷ (raw (fact 𝓤 (i + n ≤ length xs)) ⊛ raw (fact 𝓤 (j + m ≤ length xs)) ⊛ raw (fact 𝓤 ((i + n ≤ j) ⊎ (j + m ≤ i)))) ∷ []) ∵
     move ! (1 ∷ []) $ split3 ! $ heard ! _ (λ li. heard ! _ (λ lj. heard ! _ (λ apart.
-    let v : Val = vstruct (vcons (slice_val (b, i + o) n) (vcons (slice_val (b, j + o) m) vnil)) in
+    let v = vstruct (vcons (slice_val (b, i + o) n) (vcons (slice_val (b, j + o) m) vnil)) in
     let xs₁ = source 𝓛 (named 0) (named 0) κ q b o a.0.ghost_name xs i n j m li lj in
     let xs₂ = target 𝓛 (named 0) (named 0) κ q b o a.0.ghost_name xs i n j m li lj in
     let long₁ = long_source 𝓛 (named 0) (named 0) κ q b o a.0.ghost_name xs i n j m li lj in

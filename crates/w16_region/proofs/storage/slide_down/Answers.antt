@@ -3,7 +3,7 @@ use Rattle.w16_region.proofs.Slides.{slide_none, slide_more}
 use Rattle.w16_region.proofs.storage.slide_down.Goals as goal
 
 pub loop-done-init : goal.loop-done-init
-loop-done-init c = record { done = omega arith; is = sym (slide_none c.args.bytes.now c.args.from c.args.to) }
+loop-done-init c = record { done = omega arith; is = sym (slide_none _ c.args.from _) }
 
 pub loop-done-preserved : goal.loop-done-preserved
 loop-done-preserved c =

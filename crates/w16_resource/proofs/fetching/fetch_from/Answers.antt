@@ -15,6 +15,6 @@ returns-then-give-clause-given g c = λ lacks. filled _ _ _ _ _ _ c.reveal_handl
 
 pub returns-else-give-clause-given : goal.returns-else-give-clause-given
 returns-else-give-clause-given g c = λ lacks.
-    subst (λ (x : Global). GivesSource g.S.Store.is_honest (g.S.Store.files c.args.store.now) c.args.source.now.file.now (entry_of c.args.source.now.resource) (g.S.Store.failures c.args.store.now)
+    subst (λ x. GivesSource g.S.Store.is_honest (g.S.Store.files c.args.store.now) c.args.source.now.file.now (entry_of c.args.source.now.resource) (g.S.Store.failures c.args.store.now)
     (g.S.Store.failures c.read.new.store) c.args.global.now.handles (c.args.handle / 8) (Some NoRoom) x.handles)
     (sym (c.if-give.ensures.refused refl)) (full _ _ _ _ _ _ c.reveal_handles.ensures.heap lacks.owned lacks.without_bytes (c.if-give.ensures.lacks refl lacks))

@@ -10,4 +10,4 @@ returns-in-Err-clause-exact g c = λ file honest has short inside.
 pub returns-then-is_empty-clause-exact : goal.returns-then-is_empty-clause-exact
 returns-then-is_empty-clause-exact g c = λ file honest has short inside.
     let read = read_held _ _ (c.in_default.ensures.exact file honest has) ∙ ap (λ at. take c.args.source.now.resource.len (drop at file)) c.from.ensures in
-    none_empty c.bytes.result.now (sym c.is_empty.ensures ∙ c.if-is_empty.true) (subst (λ (bs : List ℕ). 0 < length bs) (sym (c.bytes.ensures ∙ read)) (has_some file c.args.source.now.resource.place c.args.source.now.resource.len short inside))
+    none_empty c.bytes.result.now (sym c.is_empty.ensures ∙ c.if-is_empty.true) (subst (λ bs. 0 < length bs) (sym (c.bytes.ensures ∙ read)) (has_some file c.args.source.now.resource.place c.args.source.now.resource.len short inside))

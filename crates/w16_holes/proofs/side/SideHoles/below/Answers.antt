@@ -26,7 +26,7 @@ returns-in_default-clause-value g c =
     let is = c.unit_of-unit.ensures in
     let from = c.requires.from in
     let low = ap (λ f. f.range.lo) c.self.view_is in
-    rw (← c.self.view_is) (last_is s.grain s.lo c.unit_of-unit.result c.args.place s.lengths None c.self.invariant.some (omega arith) c.in_default.ensures)
+    rw (← c.self.view_is) (last_is s.grain s.lo c.unit_of-unit.result _ _ None c.self.invariant.some (omega arith) c.in_default.ensures)
 
 pub returns-in_default-clause-unit : goal.returns-in_default-clause-unit
 returns-in_default-clause-unit g c =
@@ -34,7 +34,7 @@ returns-in_default-clause-unit g c =
     let is = c.unit_of-unit.ensures in
     let from = c.requires.from in
     let low = ap (λ f. f.range.lo) c.self.view_is in
-    rw (← c.self.view_is) (last_is s.grain s.lo c.unit_of-unit.result c.args.place s.lengths None c.self.invariant.some (omega arith) c.in_default.ensures)
+    rw (← c.self.view_is) (last_is s.grain s.lo c.unit_of-unit.result _ _ None c.self.invariant.some (omega arith) c.in_default.ensures)
 
 pub returns-in_default-clause-ordered : goal.returns-in_default-clause-ordered
 returns-in_default-clause-ordered g c = subst (λ f. AreHoles f.range.lo f.range.hi f.holes) c.self.view_is (AreHoles-cells (range c.self.inside) c.self.inside.lengths c.self.invariant)
@@ -45,7 +45,7 @@ returns-clause-value g c =
     let is = c.unit_of-unit.ensures in
     let from = c.requires.from in
     let low = ap (λ f. f.range.lo) c.self.view_is in
-    rw (← c.self.view_is) (ap (λ n. Some (s.lo + n)) c.bytes_before.ensures ∙ last_is s.grain s.lo c.unit_of-unit.result c.args.place s.lengths (Some c.in-Some.begin) c.self.invariant.some (omega arith) c.in-Some.ensures)
+    rw (← c.self.view_is) (ap (λ n. Some (s.lo + n)) c.bytes_before.ensures ∙ last_is s.grain s.lo c.unit_of-unit.result _ _ (Some _) c.self.invariant.some (omega arith) c.in-Some.ensures)
 
 pub returns-clause-unit : goal.returns-clause-unit
 returns-clause-unit g c =
@@ -53,7 +53,7 @@ returns-clause-unit g c =
     let is = c.unit_of-unit.ensures in
     let from = c.requires.from in
     let low = ap (λ f. f.range.lo) c.self.view_is in
-    rw (← c.self.view_is) (last_is s.grain s.lo c.unit_of-unit.result c.args.place s.lengths (Some c.in-Some.begin) c.self.invariant.some (omega arith) c.in-Some.ensures)
+    rw (← c.self.view_is) (last_is s.grain s.lo c.unit_of-unit.result _ _ (Some _) c.self.invariant.some (omega arith) c.in-Some.ensures)
 
 pub returns-clause-ordered : goal.returns-clause-ordered
 returns-clause-ordered g c = subst (λ f. AreHoles f.range.lo f.range.hi f.holes) c.self.view_is (AreHoles-cells (range c.self.inside) c.self.inside.lengths c.self.invariant)

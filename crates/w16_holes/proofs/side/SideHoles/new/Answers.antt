@@ -18,4 +18,4 @@ returns g c =
     let range : Range = record { lo = c.args.lo; hi = c.args.hi; grain = c.args.grain } in
     let up_to : c.args.lo + (c.args.hi - c.args.lo) ≡ c.args.hi = let le = c.requires.bounds in omega arith in
     ap (λ hs. record { range = range; holes = hs })
-    (ap (spans c.args.grain c.args.lo) (cells g c) ∙ spans_one c.args.grain ((c.max.result - c.args.lo) / c.args.grain) c.args.lo (c.args.hi - c.args.lo) ∙ ap (λ to. add_span c.args.lo to []) up_to)
+    (ap (spans _ _) (cells g c) ∙ spans_one c.args.grain ((c.max.result - c.args.lo) / c.args.grain) _ (c.args.hi - c.args.lo) ∙ ap (λ to. add_span c.args.lo to []) up_to)

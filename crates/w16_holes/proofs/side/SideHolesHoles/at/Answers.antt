@@ -6,4 +6,4 @@ pub returns : goal.returns
 returns g c =
     let s = c.self.inside in
     let low = ap (λ f. f.range.lo) c.self.view_is in let from = c.requires.place.from in
-    rw (← c.self.view_is) (c.get.ensures ∙ at_is s.grain c.self.invariant.some s.lengths s.lo c.unit_of.result c.args.place (omega arith))
+    rw (← c.self.view_is) (c.get.ensures ∙ at_is s.grain c.self.invariant.some _ s.lo _ _ (omega arith))

@@ -18,10 +18,10 @@ pub returns-in-Some : goal.returns-in-Some
 returns-in-Some g c =
     let s = c.self.inside in
     let is = c.in-Some.ensures ∙ ap (λ n. position (nat_le n) s.lengths) c.max.ensures in
-    rw (← c.self.view_is) (ap (λ n. Some (s.lo + n)) c.bytes_before.ensures ∙ ap (option_map (λ k. s.lo + s.grain * k)) is ∙ lowest_is s.grain s.lo c.args.n s.lengths)
+    rw (← c.self.view_is) (ap (λ n. Some (s.lo + n)) c.bytes_before.ensures ∙ ap (option_map (λ k. s.lo + s.grain * k)) is ∙ lowest_is s.grain s.lo _ _)
 
 pub returns-in-None : goal.returns-in-None
 returns-in-None g c =
     let s = c.self.inside in
     let is = c.in-None.ensures ∙ ap (λ n. position (nat_le n) s.lengths) c.max.ensures in
-    rw (← c.self.view_is) (ap (option_map (λ k. s.lo + s.grain * k)) is ∙ lowest_is s.grain s.lo c.args.n s.lengths)
+    rw (← c.self.view_is) (ap (option_map (λ k. s.lo + s.grain * k)) is ∙ lowest_is s.grain s.lo _ _)

@@ -6,32 +6,32 @@ use Rattle.w16_holes.proofs.side.SideHolesHoles.slide_down.Given as given
 use Rattle.w16_holes.proofs.side.SideHolesHoles.slide_down.Goals as goal
 
 pub take-requires-clause-part : goal.take-requires-clause-part
-take-requires-clause-part g c = let r = c.requires in part_taken c.args.self.now.holes c.reveal_order.ensures.ordered r.down r.new r.old r.free r.used c.min-apart.ensures
+take-requires-clause-part g c = let r = c.requires in part_taken _ c.reveal_order.ensures.ordered r.down r.new r.old r.free r.used c.min-apart.ensures
 
 pub take-requires-clause-free : goal.take-requires-clause-free
-take-requires-clause-free g c = let r = c.requires in free_taken c.args.self.now.holes c.reveal_order.ensures.ordered r.down r.new r.old r.free r.used c.min-apart.ensures
+take-requires-clause-free g c = let r = c.requires in free_taken _ c.reveal_order.ensures.ordered r.down r.new r.old r.free r.used c.min-apart.ensures
 
 pub put-requires-clause-part : goal.put-requires-clause-part
-put-requires-clause-part g c = let r = c.requires in rw c.take.ensures.range (part_put c.args.self.now.holes c.reveal_order.ensures.ordered r.down r.new r.old r.free r.used c.min-apart.ensures)
+put-requires-clause-part g c = let r = c.requires in rw c.take.ensures.range (part_put _ c.reveal_order.ensures.ordered r.down r.new r.old r.free r.used c.min-apart.ensures)
 
 pub put-requires-clause-used : goal.put-requires-clause-used
-put-requires-clause-used g c = let r = c.requires in rw c.take.ensures.holes (used_put c.args.self.now.holes c.reveal_order.ensures.ordered r.down r.new r.old r.free r.used c.min-apart.ensures)
+put-requires-clause-used g c = let r = c.requires in rw c.take.ensures.holes (used_put _ c.reveal_order.ensures.ordered r.down r.new r.old r.free r.used c.min-apart.ensures)
 
 -- where the hole begins there
 pub returns-then-at-from-clause-bytes : goal.returns-then-at-from-clause-bytes
 returns-then-at-from-clause-bytes g c =
     let inside = c.requires.inside in let down = c.requires.down in
-    slid_alone c.args.from c.args.to c.args.size (g.S.Space.bytes c.args.space.now) (g.S.Space.bytes c.slide.new.self) c.args.self.now.holes c.pass.new.self.holes c.slide.ensures.bytes (omega arith) (omega arith)
+    slid_alone c.args.from _ _ _ _ _ _ c.slide.ensures.bytes (omega arith) (omega arith)
 
 -- the holes where it doesn't
 once_put : (g : given.Over) (c : goal.After-put g) → c.put.new.self.holes ≡ joined (c.args.from + c.args.size - c.min-apart.result) (c.args.from + c.args.size - c.min-apart.result + c.min-apart.result) (taken c.args.to (c.args.to + c.min-apart.result) c.args.self.now.holes)
-once_put g c = c.put.ensures.holes ∙ ap (joined (c.args.from + c.args.size - c.min-apart.result) (c.args.from + c.args.size - c.min-apart.result + c.min-apart.result)) c.take.ensures.holes
+once_put g c = c.put.ensures.holes ∙ ap (joined _ _) c.take.ensures.holes
 
 pub returns-else-at-from-clause-contents : goal.returns-else-at-from-clause-contents
 returns-else-at-from-clause-contents g c =
     let r = c.requires in
-    come_too c.args.self.now.holes c.reveal_order.ensures.ordered r.down r.new r.old r.free r.used c.min-apart.ensures
-    (length (g.S.Space.bytes c.args.space.now)) r.inside c.take.ensures.bytes.long c.slide-else-at-from.ensures.bytes
+    come_too _ c.reveal_order.ensures.ordered r.down r.new r.old r.free r.used c.min-apart.ensures
+    _ r.inside c.take.ensures.bytes.long c.slide-else-at-from.ensures.bytes
     refl c.take.ensures.bytes
     (subst (λ hs. AreSameOutside hs (g.S.Space.bytes c.slide-else-at-from.new.self) (g.S.Space.bytes c.put.new._space)) (once_put g c) c.put.ensures.bytes)
 
@@ -39,8 +39,8 @@ pub returns-else-at-from-clause-bytes : goal.returns-else-at-from-clause-bytes
 returns-else-at-from-clause-bytes g c =
     let r = c.requires in
     subst (λ hs. AreSameBut c.args.to c.args.size c.args.self.now.holes hs (g.S.Space.bytes c.args.space.now) (g.S.Space.bytes c.put.new._space)) (sym (once_put g c))
-    (others_same c.args.self.now.holes c.reveal_order.ensures.ordered r.down r.new r.old r.free r.used c.min-apart.ensures
-    (length (g.S.Space.bytes c.args.space.now)) r.inside c.take.ensures.bytes.long c.slide-else-at-from.ensures.bytes
+    (others_same _ c.reveal_order.ensures.ordered r.down r.new r.old r.free r.used c.min-apart.ensures
+    _ r.inside c.take.ensures.bytes.long c.slide-else-at-from.ensures.bytes
     refl c.take.ensures.bytes
     (subst (λ hs. AreSameOutside hs (g.S.Space.bytes c.slide-else-at-from.new.self) (g.S.Space.bytes c.put.new._space)) (once_put g c) c.put.ensures.bytes))
 

@@ -13,7 +13,7 @@ pub next_above-next-requires-clause-below : goal.next_above-next-requires-clause
 next_above-next-requires-clause-below g c =
     let p = asked IsUsed c.args.space.now.bytes.items c.self.view_is c.self.invariant c.below-below.ensures.ordered c.requires.part c.requires.kept c.requires.used in
     let f = c.self.inside.side in let some = p.part.some in
-    c.below-below.ensures.value ∙ sym (last_used c.args.place (c.args.place + c.args.n) f.range.lo f.range.hi f.holes (omega arith) p.holes p.is)
+    c.below-below.ensures.value ∙ sym (last_used _ _ _ _ f.holes (omega arith) p.holes p.is)
 
 pub at-requires-clause-place : goal.at-requires-clause-place
 at-requires-clause-place g c =
@@ -51,7 +51,7 @@ pub returns-clause-kept : goal.returns-clause-kept
 returns-clause-kept g c =
     let p = asked IsUsed c.args.space.now.bytes.items c.self.view_is c.self.invariant c.below-below.ensures.ordered c.requires.part c.requires.kept c.requires.used in
     let written = put_all p c.requires.inside c.next_above-next.result c.at.result
-    c.length_below.result c.link.new.space.bytes.items c.set_words.new.space.bytes.items c.next_above-next.ensures
+    c.length_below.result _ c.set_words.new.space.bytes.items c.next_above-next.ensures
     c.at.ensures c.length_below.ensures (c.link.ensures.bytes ∙ ap
     (λ o. put_link c.args.space.now.bytes.items o (c.args.place - c.length_below.result))
     c.below-below.ensures.value) c.set_words.ensures.bytes in
@@ -61,7 +61,7 @@ pub returns-clause-bytes : goal.returns-clause-bytes
 returns-clause-bytes g c =
     let p = asked IsUsed c.args.space.now.bytes.items c.self.view_is c.self.invariant c.below-below.ensures.ordered c.requires.part c.requires.kept c.requires.used in
     let written = put_all p c.requires.inside c.next_above-next.result c.at.result
-    c.length_below.result c.link.new.space.bytes.items c.set_words.new.space.bytes.items c.next_above-next.ensures
+    c.length_below.result _ c.set_words.new.space.bytes.items c.next_above-next.ensures
     c.at.ensures c.length_below.ensures (c.link.ensures.bytes ∙ ap
     (λ o. put_link c.args.space.now.bytes.items o (c.args.place - c.length_below.result))
     c.below-below.ensures.value) c.set_words.ensures.bytes in

@@ -29,7 +29,7 @@ word_at-next-requires g c =
 
 pub set_hole-behind-requires : goal.set_hole-behind-requires
 set_hole-behind-requires g c =
-    let p = asked IsFree c.args.space.now.bytes.items c.self.view_is c.self.invariant c.below-below.ensures.ordered c.requires.part c.requires.kept c.requires.free in
+    let p = asked IsFree _ c.self.view_is c.self.invariant c.below-below.ensures.ordered c.requires.part c.requires.kept c.requires.free in
     let is = c.word_at.ensures in λ lt. take_room p c.in-Some.begin c.in-Some.ensures (omega arith)
 
 pub link-requires : goal.link-requires
@@ -42,7 +42,7 @@ link-requires g c =
 pub overflow_sub-place : goal.overflow_sub-place
 overflow_sub-place g c =
     let p = asked IsFree c.args.space.now.bytes.items c.self.view_is c.self.invariant c.below-below.ensures.ordered c.requires.part c.requires.kept c.requires.free in
-    take_from p c.in-Some.begin c.in-Some.ensures
+    take_from p _ c.in-Some.ensures
 
 pub set_word-requires : goal.set_word-requires
 set_word-requires g c =
@@ -56,7 +56,7 @@ returns-in-Some-clause-kept g c =
     let p = asked IsFree c.args.space.now.bytes.items c.self.view_is c.self.invariant c.below-below.ensures.ordered c.requires.part c.requires.kept c.requires.free in
     let written = take_written p c.in-Some.begin c.in-Some.ensures c.word_at.result
     c.word_at-next.result c.set_hole-behind.result c.set_hole-behind.new.space.bytes.items
-    c.link.new.space.bytes.items c.set_word.new.self.bytes.items c.word_at.ensures c.word_at-next.ensures
+    _ c.set_word.new.self.bytes.items c.word_at.ensures c.word_at-next.ensures
     c.set_hole-behind.ensures.bytes c.set_hole-behind.ensures.first
     (c.link.ensures.bytes ∙ ap (λ o. put_link c.set_hole-behind.new.space.bytes.items o
     c.set_hole-behind.result) c.below-below.ensures.value) c.set_word.ensures.bytes in
@@ -64,10 +64,10 @@ returns-in-Some-clause-kept g c =
 
 pub returns-in-Some-clause-bytes : goal.returns-in-Some-clause-bytes
 returns-in-Some-clause-bytes g c =
-    let p = asked IsFree c.args.space.now.bytes.items c.self.view_is c.self.invariant c.below-below.ensures.ordered c.requires.part c.requires.kept c.requires.free in
+    let p = asked IsFree _ c.self.view_is c.self.invariant c.below-below.ensures.ordered c.requires.part c.requires.kept c.requires.free in
     let written = take_written p c.in-Some.begin c.in-Some.ensures c.word_at.result
     c.word_at-next.result c.set_hole-behind.result c.set_hole-behind.new.space.bytes.items
-    c.link.new.space.bytes.items c.set_word.new.self.bytes.items c.word_at.ensures c.word_at-next.ensures
+    _ _ c.word_at.ensures c.word_at-next.ensures
     c.set_hole-behind.ensures.bytes c.set_hole-behind.ensures.first
     (c.link.ensures.bytes ∙ ap (λ o. put_link c.set_hole-behind.new.space.bytes.items o
     c.set_hole-behind.result) c.below-below.ensures.value) c.set_word.ensures.bytes in

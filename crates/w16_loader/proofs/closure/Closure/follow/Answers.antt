@@ -17,24 +17,24 @@ named_refused answers modules found name before after faults.OutOfMemory none h 
 
 pub returns-in-Ok-clause-refused : goal.returns-in-Ok-clause-refused
 returns-in-Ok-clause-refused g c =
-    let answers = C.answers_of g.S.Store.is_honest (g.S.Store.files c.args.store.now) in
+    let answers = C.answers_of _ _ in
     let modules = c.args.registry.now in
-    let before = g.S.Store.failures c.args.store.now in
-    let after = g.S.Store.failures c.follow_file.new.store in
+    let before = g.S.Store.failures _ in
+    let after = g.S.Store.failures _ in
     let old = c.args.self.now in
     let name = c.args.name.now in
-    let none = subst (λ found. meant_in modules found name ≡ None) c.as_slice-found.ensures.value (sym (c.meant.ensures []) ∙ ap (C.option_map C.referent_of) c.in_default.is) in
+    let none = subst (λ found. meant_in modules found name ≡ None) c.as_slice-found.ensures.value (sym (c.meant.ensures []) ∙ ap (C.option_map _) c.in_default.is) in
     let fault = subst (λ found. IfErr c.follow_file.result (IsFault (IsRefusedFile answers modules found c.in-Ok.file.items) before after)) c.as_slice-found.ensures.value c.follow_file.ensures.refused in
     let here = subst (λ file. IfErr c.follow_file.result (IsFault (IsRefusedFile answers modules old.found.items file) before after)) c.in-Ok.ensures fault in
-    IfErr-weaker c.follow_file.result _ _ (λ fault. named_refused answers modules old.found.items name before after fault none) here
+    IfErr-weaker _ _ _ (λ fault. named_refused answers modules _ name before after fault none) here
 
 pub returns-in-Ok-clause-leads : goal.returns-in-Ok-clause-leads
 returns-in-Ok-clause-leads g c =
-    let answers = C.answers_of g.S.Store.is_honest (g.S.Store.files c.args.store.now) in
+    let answers = C.answers_of g.S.Store.is_honest (g.S.Store.files _) in
     let modules = c.args.registry.now in
     let old = c.args.self.now in
     let name = c.args.name.now in
-    let none = subst (λ found. meant_in modules found name ≡ None) c.as_slice-found.ensures.value (sym (c.meant.ensures []) ∙ ap (C.option_map C.referent_of) c.in_default.is) in
+    let none = subst (λ found. meant_in modules found name ≡ None) c.as_slice-found.ensures.value (sym (c.meant.ensures []) ∙ ap (C.option_map _) c.in_default.is) in
     let read = subst (λ found. IfOk c.follow_file.result (C.LeadsByAnswer answers modules found c.in-Ok.file.items)) c.as_slice-found.ensures.value c.follow_file.ensures.leads in
     let here = subst (λ file. IfOk c.follow_file.result (C.LeadsByAnswer answers modules old.found.items file)) c.in-Ok.ensures read in
-    IfOk-weaker c.follow_file.result _ (C.LeadsTo answers modules old.found.items name) (λ made h. inr (none, h)) here
+    IfOk-weaker _ _ _ (λ made h. inr (none, h)) here

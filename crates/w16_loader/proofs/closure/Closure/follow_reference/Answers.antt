@@ -5,24 +5,24 @@ use Rattle.w16_loader.proofs.closure.Closure.follow_reference.Goals as goal
 pub returns-in-Ok-bind-clause-same : goal.returns-in-Ok-bind-clause-same
 returns-in-Ok-bind-clause-same g c =
     let at = indexed c.args.self.now.found.items c.args.place c.args.number c.index.result.now c.requires.first c.requires.last c.index.ensures in
-    ap (λ found. references_at found c.args.place) c.in-Ok-bind.ensures.found ∙ same_after c.args.self.now.found.items c.args.place c.index.result.now c.in-Ok.followed at.0
+    ap (λ found. references_at found c.args.place) c.in-Ok-bind.ensures.found ∙ same_after c.args.self.now.found.items c.args.place _ c.in-Ok.followed at.0
 
 pub returns-in-Ok-bind-clause-few : goal.returns-in-Ok-bind-clause-few
-returns-in-Ok-bind-clause-few g c = few_after (answers_of g.S.Store.is_honest (g.S.Store.files c.args.store.now)) c.args.registry.now c.args.self.now.found.items c.reference-name.result.now c.in-Ok.followed c.in-Ok.ensures.leads c.bind.new.self.found.items c.in-Ok-bind.ensures.found
+returns-in-Ok-bind-clause-few g c = few_after (answers_of _ _) _ _ c.reference-name.result.now c.in-Ok.followed c.in-Ok.ensures.leads _ c.in-Ok-bind.ensures.found
 
 pub returns-in-Err-clause-refused : goal.returns-in-Err-clause-refused
 returns-in-Err-clause-refused g c =
     let at = indexed c.args.self.now.found.items c.args.place c.args.number c.index.result.now c.requires.first c.requires.last c.index.ensures in
-    refused_at (answers_of g.S.Store.is_honest (g.S.Store.files c.args.store.now)) c.args.registry.now c.args.place c.args.self.now c.index.result.now at.0 c.args.number c.requires.first at.1
-    c.reference-name.result.now c.reference-name.ensures _ _ c.in-Err.fault c.in-Err.ensures.refused
+    refused_at (answers_of _ _) c.args.registry.now c.args.place c.args.self.now _ at.0 _ c.requires.first at.1
+    c.reference-name.result.now c.reference-name.ensures _ _ _ c.in-Err.ensures.refused
 
 pub returns-in-Ok-bind-clause-leads : goal.returns-in-Ok-bind-clause-leads
 returns-in-Ok-bind-clause-leads g c =
     let at = indexed c.args.self.now.found.items c.args.place c.args.number c.index.result.now c.requires.first c.requires.last c.index.ensures in
-    leads_on (answers_of g.S.Store.is_honest (g.S.Store.files c.args.store.now)) c.args.registry.now c.args.place c.args.self.now c.index.result.now at.0 c.args.number c.requires.first at.1
+    leads_on (answers_of _ _) _ c.args.place c.args.self.now _ at.0 _ c.requires.first at.1
     c.reference-name.result.now c.reference-name.ensures c.bind.new.self c.in-Ok.followed c.in-Ok.ensures.leads c.in-Ok-bind.ensures.found c.in-Ok-bind.ensures.bound
 
 pub returns-in-Ok-bind-clause-accepted : goal.returns-in-Ok-bind-clause-accepted
 returns-in-Ok-bind-clause-accepted g c = λ all.
-    accepts_more (answers_of g.S.Store.is_honest (g.S.Store.files c.args.store.now)) c.args.registry.now c.args.self.now.found.items c.reference-name.result.now c.in-Ok.followed c.in-Ok.ensures.leads c.bind.new.self.found.items
+    accepts_more (answers_of _ _) c.args.registry.now _ c.reference-name.result.now c.in-Ok.followed c.in-Ok.ensures.leads _
     c.in-Ok-bind.ensures.found all

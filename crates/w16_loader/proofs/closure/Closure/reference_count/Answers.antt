@@ -15,5 +15,5 @@ returns-in-None g c = subst (λ found. 0 ≡ length (references_at found c.args.
 
 pub returns-in-Some : goal.returns-in-Some
 returns-in-Some g c = subst (λ found. c.reference_count.result ≡ length (references_at found c.args.place)) c.deref.ensures.value
-    (some c.deref.result.now c.args.place c.reference_count.result c.in-Some.found.now
-    (slice_get_read c.deref.result.now (length c.deref.result.now) c.args.place c.in-Some.found.now refl c.in-Some.ensures.lookup.3.0 c.in-Some.ensures.lookup.1) c.reference_count.ensures)
+    (some c.deref.result.now c.args.place _ c.in-Some.found.now
+    (slice_get_read c.deref.result.now _ c.args.place _ refl c.in-Some.ensures.lookup.3.0 c.in-Some.ensures.lookup.1) c.reference_count.ensures)

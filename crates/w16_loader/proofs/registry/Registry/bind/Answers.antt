@@ -5,16 +5,16 @@ use Rattle.std.specs.FinMap as finmap
 use Rattle.w16_loader.proofs.registry.Registry.bind.Goals as goal
 
 pub returns-in-None : goal.returns-in-None
-returns-in-None g c = none_bound c.args.self.now (registered c.take_module.new.entries) c.args.handle (map (λ v. map far_of v.items) c.args.values.items) (module_there c.self.inside.entries c.args.handle c.self.view_is c.in-None.ensures.found) (ap registered c.in-None.ensures.none ∙ c.self.view_is)
+returns-in-None g c = none_bound _ _ _ (map (λ v. map far_of v.items) _) (module_there c.self.inside.entries _ c.self.view_is c.in-None.ensures.found) (ap registered c.in-None.ensures.none ∙ c.self.view_is)
 
 pub invariant_of-self-in-Some : goal.invariant_of-self-in-Some
-invariant_of-self-in-Some g c = again_counts c.self.invariant c.args.handle c.in-Some.ensures.found _
-    c.in-Some.ensures.gone c.put.ensures c.bind.new.self refl (ap (λ (m : Module). m.imports) c.bind.ensures ∙ ap (λ (m : Module). m.imports) c.deref_mut.ensures.value)
+invariant_of-self-in-Some g c = again_counts c.self.invariant _ c.in-Some.ensures.found _
+    c.in-Some.ensures.gone c.put.ensures c.bind.new.self refl (ap (λ m. m.imports) c.bind.ensures ∙ ap (λ m. m.imports) c.deref_mut.ensures.value)
 
 pub returns-in-Some : goal.returns-in-Some
 returns-in-Some g c =
-    let there = module_there c.self.inside.entries c.args.handle c.self.view_is c.in-Some.ensures.found in
-    let put = again_named c.self.invariant c.args.handle c.in-Some.ensures.found _
+    let there = module_there c.self.inside.entries _ c.self.view_is c.in-Some.ensures.found in
+    let put = again_named c.self.invariant _ c.in-Some.ensures.found _
     c.in-Some.ensures.gone c.put.ensures c.self.view_is in
-    bound_again c.args.self.now (finmap.remove c.args.self.now c.args.handle) (registered c.put.new.self) c.args.handle (map (λ v. map far_of v.items) c.args.values.items) c.in-Some.loaded.value c.deref_mut.result.now c.bind.new.self
+    bound_again _ _ _ _ (map (λ v. map far_of v.items) _) c.in-Some.loaded.value c.deref_mut.result.now c.bind.new.self
     there refl put c.deref_mut.ensures.value c.bind.ensures

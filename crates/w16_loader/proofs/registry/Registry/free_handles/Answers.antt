@@ -14,15 +14,15 @@ loop-handle-preserved g c =
     let lt : c.loop-handle.handle < FIRST_MODULE + MOST_MODULES = omega arith in
     elim c.if-len-count.branch [
       | then-len-count+then-is_none+in_ok-push w ↦
-          let more : c.if-len-count.handles.items ≡ c.loop-handle.handles.items ++ c.loop-handle.handle ∷ [] = ap (λ v. v.items) w.handles-is ∙ w.in_ok-push.ensures.items in
-          let free : is_free modules h ≡ true = tested w.get.result (λ e. named_of e.now) (finmap.get modules h) w.is_none.result true w.get.ensures w.is_none.ensures w.if-is_none.true in
+          let more = ap (λ v. v.items) w.handles-is ∙ w.in_ok-push.ensures.items in
+          let free = tested w.get.result (λ e. named_of e.now) (finmap.get modules h) w.is_none.result true w.get.ensures w.is_none.ensures w.if-is_none.true in
           record {
             lowest = ap (λ xs. take c.args.count (xs ++ free_from modules (h + 1))) more ∙ handle_more modules c.args.count h c.loop-handle.handles.items lt free ∙ c.loop-handle.invariant.lowest;
             few = omega (arith, ap length more, length-append c.loop-handle.handles.items (c.loop-handle.handle ∷ []), w.if-len-count.true, c.len.ensures);
           }
       | else-len-count w ↦ elim w.else-len-count.branch [
         | else-len-count-via-then-len-count+else-is_none w' ↦
-            let free : is_free modules h ≡ false = tested w'.get.result (λ e. named_of e.now) (finmap.get modules h) w'.is_none.result false w'.get.ensures w'.is_none.ensures w'.if-is_none.false in
+            let free = tested w'.get.result (λ e. named_of e.now) (finmap.get modules h) w'.is_none.result false w'.get.ensures w'.is_none.ensures w'.if-is_none.false in
             record {
               lowest = ap (λ v. take c.args.count (v.items ++ free_from modules (h + 1))) w.handles-is ∙ handle_taken modules c.args.count h c.loop-handle.handles.items lt free ∙ c.loop-handle.invariant.lowest;
               few = omega (arith, ap (λ v. length v.items) w.handles-is, c.loop-handle.invariant.few);
@@ -39,13 +39,13 @@ loop-handle-preserved g c =
 pub returns-clause-lowest : goal.returns-clause-lowest
 returns-clause-lowest g c =
     let past : FIRST_MODULE + MOST_MODULES ≤ c.loop-handle.handle = omega arith in
-    sym (all_through c.args.self.now c.args.count c.loop-handle.handle c.loop-handle.handles.items past c.loop-handle.invariant.few) ∙ c.loop-handle.invariant.lowest
+    sym (all_through _ _ _ _ past c.loop-handle.invariant.few) ∙ c.loop-handle.invariant.lowest
 
 pub returns-clause-many : goal.returns-clause-many
 returns-clause-many g c =
     let past : FIRST_MODULE + MOST_MODULES ≤ c.loop-handle.handle = omega arith in
-    as_many c.args.self.now c.self.inside.entries c.args.count c.loop-handle.handles.items c.self.view_is c.self.invariant.0
-    (sym (all_through c.args.self.now c.args.count c.loop-handle.handle c.loop-handle.handles.items past c.loop-handle.invariant.few) ∙ c.loop-handle.invariant.lowest)
+    as_many _ c.self.inside.entries _ _ c.self.view_is c.self.invariant.0
+    (sym (all_through _ _ _ _ past c.loop-handle.invariant.few) ∙ c.loop-handle.invariant.lowest)
 
 pub loop-handle-init : goal.loop-handle-init
 loop-handle-init g c = record {

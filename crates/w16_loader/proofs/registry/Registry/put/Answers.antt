@@ -12,10 +12,10 @@ recount-requires-clause-few g c = few c.self.invariant c.args.handle
 pub invariant_of-self : goal.invariant_of-self
 invariant_of-self g c =
     let inside : c.args.handle < length c.self.inside.entries = omega (arith, c.requires, c.self.invariant.0.many) in
-    put_counts c.self.invariant c.args.handle c.args.entry c.imports_of.result.now c.recount.new.counts.items c.requires.0 inside
+    put_counts c.self.invariant _ c.args.entry c.imports_of.result.now _ c.requires.0 inside
     (free_place c.self.inside.entries c.args.handle c.self.view_is c.requires.2) c.put.ensures c.imports_of.ensures c.recount.ensures.many c.recount.ensures.each
 
 pub returns : goal.returns
 returns g c =
     let inside : c.args.handle < length c.self.inside.entries = omega (arith, c.requires, c.self.invariant.0.many) in
-    ap registered c.put.ensures ∙ named_set c.self.inside.entries c.args.handle c.args.entry inside ∙ ap (λ modules. finmap.insert modules c.args.handle (named_of c.args.entry)) c.self.view_is
+    ap registered c.put.ensures ∙ named_set _ _ c.args.entry inside ∙ ap (λ modules. finmap.insert modules c.args.handle (named_of c.args.entry)) c.self.view_is

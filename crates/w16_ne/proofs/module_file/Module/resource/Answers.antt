@@ -13,4 +13,4 @@ pub returns-clause-inside : goal.returns-clause-inside
 returns-clause-inside g c = λ file known.
     let t = c.args.self.now in
     begins file t.header t.place c.args.place t.resources c.resource.result ((module_format file t).0 known).resources
-    (c.resource.ensures ∙ ap (λ (x : Tables). resource_at x.resources c.args.place) c.self.view_is)
+    (c.resource.ensures ∙ ap (λ x. resource_at x.resources c.args.place) c.self.view_is)

@@ -4,5 +4,5 @@ use Rattle.w16_ne.proofs.names.Names.ordinal_of.Goals as goal
 
 pub returns-then-name-gt255 : goal.returns-then-name-gt255
 returns-then-name-gt255 g c =
-    let all = recursion_from_All (λ (e : Entry). length e.0 ≤ 255) c.args.self.now c.reveal_short.ensures in
+    let all = recursion_from_All (λ e. length e.0 ≤ 255) c.args.self.now c.reveal_short.ensures in
     sym (none_longer c.args.self.now c.args.name.now c.if-name-gt255.true all)

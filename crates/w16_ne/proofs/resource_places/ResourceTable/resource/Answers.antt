@@ -19,8 +19,8 @@ label-kind-requires g c =
     let i = c.in_ok-i.i in
     let there = c.in_ok-row.ensures.lookup.3.0 in
     let inside : i < length s.rows.rows.items = omega (arith, there, ap length c.deref.ensures.value) in
-    let all = recursion_from_All (λ (g : Group). HasLabel s.texts.items g.kind) s.rows.groups.items c.self.invariant.1.kinds in
-    let has : HasLabel s.texts.items (kind_at s.rows.groups.items i) = kind_there s.texts.items s.rows.groups.items i all (omega (arith, inside, c.self.invariant.1.counted)) in
+    let all = recursion_from_All (λ g. HasLabel s.texts.items g.kind) s.rows.groups.items c.self.invariant.1.kinds in
+    let has = kind_there s.texts.items s.rows.groups.items i all (omega (arith, inside, c.self.invariant.1.counted)) in
     rw (c.as_slice-texts.ensures.value, c.kind_at.ensures, c.as_slice.ensures.value) has
 
 pub returns : goal.returns
@@ -36,9 +36,9 @@ returns g c =
     let row = c.in_ok-row.field-0.now in
     let found = found_grouped texts s.shift groups rows i row c.self.invariant.1.counted inside in
     let same = c.as_slice-texts.ensures.value in
-    let kind : c.kind_at.result ≡ kind_at groups i = c.kind_at.ensures ∙ ap (λ gs. kind_at gs i) c.as_slice.ensures.value in
-    let at : row ≡ get_or rows i row = c.in_ok-row.ensures.lookup.3.1 row ∙ ap (λ rs. get_or rs i row) c.deref.ensures.value in
-    let label : label_of c.label-kind.result ≡ label_in texts (kind_at groups i) = c.label-kind.ensures ∙ ap (λ t. label_in t c.kind_at.result) same ∙ ap (label_in texts) kind in
-    let entry : entry_of c.entry.result ≡ entry_in texts s.shift (get_or rows i row) = c.entry.ensures ∙ ap (λ t. entry_in t s.shift row) same ∙ ap (entry_in texts s.shift) at in
-    ap (λ (l : Label). Some (l, entry_of c.entry.result)) label ∙ ap (λ (e : Entry). Some (label_in texts (kind_at groups i), e)) entry
+    let kind = c.kind_at.ensures ∙ ap (λ gs. kind_at gs i) c.as_slice.ensures.value in
+    let at = c.in_ok-row.ensures.lookup.3.1 row ∙ ap (λ rs. get_or rs i row) c.deref.ensures.value in
+    let label = c.label-kind.ensures ∙ ap (λ t. label_in t c.kind_at.result) same ∙ ap (label_in texts) kind in
+    let entry = c.entry.ensures ∙ ap (λ t. entry_in t s.shift row) same ∙ ap (entry_in texts s.shift) at in
+    ap (λ l. Some (l, entry_of c.entry.result)) label ∙ ap (λ e. Some (label_in texts (kind_at groups i), e)) entry
     ∙ sym found ∙ ap (λ ts. resource_at ts (suc i)) c.self.view_is ∙ ap (resource_at c.args.self.now) (sym place)

@@ -6,6 +6,6 @@ use Rattle.w16_region.proofs.region.RegionSpace.view_mut.Goals as goal
 pub returns : goal.returns
 returns g c =
     let e : c.saturating_add-self.result ≡ counted c.args.self.now.written c.args.size = search rules in
-    let left : List ℕ → Vec ℕ g.row.A.Denot = λ w. with_items c.args.self.now.bytes (put_part c.args.self.now.bytes.items c.args.at w) in
+    let left : List ℕ → Vec ℕ g.row.A.Denot = λ w. with_items c.args.self.now.bytes (put_part _ _ w) in
     let make : (w : List ℕ) → ℕ → length (left w).items < 2 ^ 32 → Region g.row.A.Denot = λ w k s. record { bytes = left w; written = k; small = s } in
     ((refl, λ w. same_made (make w) _ _ _ _ e), record { value = c.lend_part.ensures.value; writes_back = tt })

@@ -43,7 +43,7 @@ lend_whole_spec 𝓤 𝓛 𝓜 𝓡 wired =
     alloc_all ! (λ l. pass_all ! refl ((tt, tt), tt) $
     split ! $ move ! (2 ∷ []) $ fsplit ! $ fsplit3 ! $ drop ! $ move ! (0 ∷ 1 ∷ 3 ∷ []) $
     opens ! tt Sl b o (λ vs. move ! (1 ∷ []) $ fsplit ! $ fsplit ! $ feq_l ! (λ e. pure_l ! (room u8 (length xs)) (λ rm.
-    rewrite ! 1 (λ (us : List Val). ‵ (cell_at full_share Sl.mir us b o)) e refl $ move ! (1 ∷ []) $
+    rewrite ! 1 (λ us. ‵ (cell_at full_share Sl.mir us b o)) e refl $ move ! (1 ∷ []) $
     use1 𝓛 (‵ (fat full_share Place b o v)) (𝓛.laws.raw_at full_share Place b o v) $
     sets ! (of_opd ! (load ! (through ! refl (fld ! refl (stop !))) (look_in ! 0 (sub ! 1 refl (whole !))))) refl (tt, record { fits = rm.0 }) $
     sets ! (addr ! (through ! refl (fld ! refl (hop ! (look_in ! 0 (sub ! 0 refl (whole !))) (stop !))))) refl (tt, tt) $

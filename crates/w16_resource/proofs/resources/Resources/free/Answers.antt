@@ -10,6 +10,6 @@ returns g c = λ rest.
     let x : ℕ × loading.Load = (c.in-Some.slot, load_in c.in-Some.load) in
     let found = sym (c.in-Some.ensures.named rest) in
     let slotted = named_slot old c.args.handle x found in
-    let count : bit_and c.global_flags.result 255 ≡ locks_at c.args.global.now.handles.heap c.in-Some.slot = and_mask c.global_flags.result 8 ∙ ap (λ n. n % 256) c.global_flags.ensures ∙ lock_count c.args.global.now.handles c.reveal_handles.ensures c.args.handle c.in-Some.slot slotted in
-    let none : locks_at c.args.global.now.handles.heap c.in-Some.slot ≤ 0 = subst (λ n. n ≤ 0) count c.if-global_flags-gt0.false in
+    let count = and_mask c.global_flags.result 8 ∙ ap (λ n. n % 256) c.global_flags.ensures ∙ lock_count c.args.global.now.handles c.reveal_handles.ensures c.args.handle c.in-Some.slot slotted in
+    let none = subst (λ n. n ≤ 0) count c.if-global_flags-gt0.false in
     (λ i. (0, record rest { handles = (c.release_slot.ensures i).handles; loads = c.remove.ensures i })) ∙ last_gone old c.args.handle x found c.if-load-gt1.false none

@@ -22,6 +22,6 @@ returns-in-Err-clause-made g c = λ label.
     _ _ _ _ _ _ c.args.handle c.args.place _ _ _ _ (Some c.in-Err.fault) c.fetch_from.new.global.handles c.in-Err.ensures.given (
       c.refusal.ensures.answer,
       unmade c.args.global.now.handles c.take_owned.new.self.handles c.kind_of-kind.result c.owned_for.result c.in-Some.name t (resource_in (label, entry_of c.args.source.now.resource)) c.kind_of-kind.ensures c.owned_for.ensures.owned
-          c.fetch_from.new.global.handles c.release_slot.new.global.handles c.slot_of-in-Err.result c.reveal_handles.ensures (ap (λ (x : Global). x.handles) c.in-Err.ensures.refused) c.slot_of-in-Err.ensures.value (ap (λ (x : Global). x.handles) c.release_slot.ensures),
+          c.fetch_from.new.global.handles c.release_slot.new.global.handles c.slot_of-in-Err.result c.reveal_handles.ensures (ap (λ x. x.handles) c.in-Err.ensures.refused) c.slot_of-in-Err.ensures.value (ap (λ x. x.handles) c.release_slot.ensures),
       refl,
     ))

@@ -13,7 +13,7 @@ loop-slot-preserved g c = record {
       next_done now (record rest { handles = c.sweep_slot.new.global.handles; modules = c.args.registry.now; loads = c.sweep_slot.new.self }) c.loop-slot.slot (c.sweep_slot.ensures rest) (c.loop-slot.invariant.done rest);
   behind = λ rest q none.
       let now : LoadingWorld = record rest { handles = c.loop-slot.global.handles; modules = c.args.registry.now; loads = c.loop-slot.self } in
-      subst (λ (w : LoadingWorld). is_left_over w q ≡ false) (sym (c.sweep_slot.ensures rest)) (swept_other now c.loop-slot.slot q (c.loop-slot.invariant.behind rest q none));
+      subst (λ w. is_left_over w q ≡ false) (sym (c.sweep_slot.ensures rest)) (swept_other now c.loop-slot.slot q (c.loop-slot.invariant.behind rest q none));
 }
 
 pub returns : goal.returns
