@@ -1,5 +1,5 @@
 #!/bin/sh
-# Runs every check of pages and examples: those of the pages always, those of help texts and examples where the programs are built.
+# Runs every check of pages, definitions and examples: those of help texts and examples where the programs are built, the others always.
 # usage: check-all.sh
 # It ends with 1 where one of them finds something.
 
@@ -10,6 +10,7 @@ map=../crates/w16map/out/w16map
 status=0
 ./check-docs.py || status=1
 ./check-commands.py || status=1
+./meaning.py || status=1
 if [ -x "$heap" ] && [ -x "$ne" ] && [ -x "$map" ]; then
     ./check-help.sh "$heap" "$ne" "$map" || status=1
     ./check-examples.sh "$heap" "$ne" "$map" || status=1

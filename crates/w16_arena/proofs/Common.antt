@@ -76,9 +76,9 @@ pub use Rattle.w16_model.proofs.Reallocations.{fewest_law}
 pub use Rattle.w16_model.proofs.Sound.{sound_heap}
 pub use Rattle.w16_model.proofs.Starts.{hole_is_longest, inside, sized, spans_are, two}
 pub use Rattle.w16_model.proofs.Tables.{block_table, length_range, member_with, object_is, place_is, table_block, table_longest, with_member}
-pub use Rattle.w16_model.specs.OneObject.{after_newest, after_oldest, after_release}
+pub use Rattle.w16_model.specs.OneObject.{after_newest, after_oldest}
+pub use Rattle.w16_model.specs.Law.{after_release, by_its_id}
 pub use Rattle.w16_model.specs.Request.{Compacts}
-pub use Rattle.w16_model.specs.Walk.{by_its_id}
 pub use Rattle.w16_model.specs.declared.Block.{Block}
 pub use Rattle.w16_model.specs.declared.Entry.{Entry}
 pub use Rattle.w16_model.specs.declared.Hold.{Hold}

@@ -4,7 +4,7 @@ use proofs.Common as C
 use proofs.Common.{◌≡◌, ℕ, ◌<◌, ◌≤◌, Bool, true, false, not, ◌&&◌, ◌||◌, cond, nat_le, List, length, Option, Some, None, is_some, IfSome, refl, sym, ap, ◌∙◌, arith, Block, Entry, RoomOptions, Uses, fits_in_place, growth_for, none_discarded_if, Heap, blocks, Table, block_with}
 use proofs.{Parts.AreParts, Listed.listed_permutation, Viewed.bytes_none, Growing.entry_below}
 use Rattle.w16_model.specs.Discards.{Snapshot, prefix_for}
-use Rattle.w16_model.specs.Ends.{ending, is_grown, is_resized, is_answered, IsLeastEnd, HasNoEnd}
+use Rattle.w16_model.specs.{Ends.ending, Ends.is_answered, Ends.is_grown, Ends.is_resized, Law.HasNoEnd, Law.IsLeastEnd}
 use Rattle.w16_model.proofs.Pinned.{longest_hole-permutation}
 use Rattle.w16_holes.specs.declared.holes.TheConstants.{LAST_END}
 use Rattle.w16_compact.specs.{declared.stretch.Stretch.Stretch, Stretch.stretch_at}

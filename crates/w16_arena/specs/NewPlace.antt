@@ -1,7 +1,7 @@
 -- Room that is made for new bytes: the blocks that slid for it, and the place that it leaves.
 use Rattle.std.specs.Prelude.{ℕ, ◌+◌, ◌-◌, ◌<◌, ◌≤◌, ◌≡◌, ◌⊎◌, Bool, if◌then◌else◌, nat_le, List, [], ◌∷◌, length, find, All, MatchOption}
 use Rattle.std.specs.List.{AllByRecursion}
-use Rattle.w16_model.specs.{Bytes.part, declared.Block.Block, declared.Hold.TheVariants.Loose, Gap.block_end, Gap.is_pinned, Gap.Misses, Gap.IsClear, Gap.holes, Gap.room, Gap.longest_hole, Heap.IsMultiple, Table.Table}
+use Rattle.w16_model.specs.{Bytes.part, declared.Block.Block, declared.Hold.TheVariants.Loose, Gap.block_end, Gap.is_pinned, Gap.Misses, Gap.IsClear, Law.holes, Gap.room, Gap.longest_hole, Heap.IsMultiple, Table.Table}
 use Rattle.w16_blocks.specs.Layout.{Layout, IsOrdered}
 use Rattle.w16_compact.specs.{declared.gaps.Gap.Gap, Gap.HasRoom, Gap.IsLowest}
 

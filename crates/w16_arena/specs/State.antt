@@ -1,7 +1,7 @@
 -- What an arena is, and a step of its heap in every memory.
 use Rattle.std.specs.Prelude.{◌≡◌, ℕ, ◌≤◌, ◌&&◌, if◌then◌else◌, Bool, List, [], length, replicate, Option, None, Result}
 use Rattle.std.specs.Borrow.{GName}
-use Rattle.w16_model.specs.{declared.Entry.Entry, declared.Refusal.Refusal, declared.Block.Block, declared.Span.Span, Gap.holes, Heap.Heap, Heap.Object, Changes.newest, Changes.without, OneObject.after_newest, OneObject.after_oldest, Table.Table, Table.IsSound, Table.heap_in}
+use Rattle.w16_model.specs.{declared.Entry.Entry, declared.Refusal.Refusal, declared.Block.Block, declared.Span.Span, Law.holes, Heap.Heap, Heap.Object, Changes.newest, Changes.without, OneObject.after_newest, OneObject.after_oldest, Table.Table, Table.IsSound, Table.heap_in}
 use Rattle.w16_blocks.specs.{Layout.Layout, Stay.Leaves}
 use Rattle.w16_lru.specs.{declared.End.End, declared.End.TheVariants.Oldest, declared.End.TheVariants.Newest}
 use Rattle.w16_compact.specs.{Gather.contents, Rest.IsSameRest}

@@ -3,7 +3,7 @@ ghost use Rattle.std.specs.Prelude.{◌≡◌, ℕ, ◌+◌, ◌<◌, ◌≤◌,
 ghost use Rattle.w16_model.specs.Gap.{block_end, hole_after, holds_still};
 ghost use Rattle.w16_model.specs.Discards.{fits_in_place, growth_for, snapshot};
 ghost use Rattle.w16_model.specs.Heap.{IsMultiple};
-ghost use Rattle.w16_model.specs.Ends.{ending, IsLeastEnd, HasNoEnd};
+ghost use Rattle.w16_model.specs.{Ends.ending, Law.HasNoEnd, Law.IsLeastEnd};
 ghost use Rattle.w16_model.specs.Table.{block_with, heap_in, IsSound};
 ghost use Rattle.w16_blocks.specs.Layout.{IsOrdered, holes_of};
 ghost use Rattle.w16_blocks.specs.Stay.{HasRange};

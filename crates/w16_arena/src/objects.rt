@@ -1,7 +1,8 @@
 //! What becomes of single objects. None of these calls asks for room.
 ghost use Rattle.std.specs.Prelude.{◌≡◌, ◌<◌, ◌≤◌, Ok, Err, Some, None, length, IfErr, IfSome, IfNone, IsSomeAnd, IsTrue, true, OnOk, OnErr};
 ghost use Rattle.w16_model.specs.Heap.{object_at};
-ghost use Rattle.w16_model.specs.OneObject.{Enters, after_free, after_release, after_lock, after_unlock, after_discard, after_touch, after_newest, after_oldest, refused_order};
+ghost use Rattle.w16_model.specs.OneObject.{Enters, after_free, after_lock, after_unlock, after_discard, after_touch, after_newest, after_oldest, refused_order};
+ghost use Rattle.w16_model.specs.Law.{after_release};
 ghost use Rattle.w16_model.specs.Table.{block_with, entry_at, hold_of_entry, IsCountedBy};
 ghost use Rattle.w16_model.specs.Changes as changes;
 ghost use Rattle.w16_model.specs.Discards.{is_member};

@@ -1,7 +1,7 @@
 //! A walk of the heap, part by part.
 ghost use Rattle.std.specs.Prelude.{◌≡◌, ◌+◌, ◌^◌, ◌<◌, ◌≤◌, ℕ, List, length, IfSome, IsSomeAnd, Some, slice_get};
 ghost use Rattle.w16_model.specs.Table.{entry_at, heap_in, IsSound};
-ghost use Rattle.w16_model.specs.Walk.{IsFirstItem, IsItem, IsItemAt, by_its_id};
+ghost use Rattle.w16_model.specs.{Law.IsFirstItem, Law.IsItemAt, Law.by_its_id, Walk.IsItem};
 ghost use Rattle.w16_arena.specs.State.{holes_in};
 
 use crate::Arena;

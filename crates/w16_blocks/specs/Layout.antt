@@ -1,7 +1,7 @@
 -- Blocks between two bounds, by address.
 use Rattle.std.specs.Prelude.{ℕ, suc, ◌<◌, ◌≤◌, ◌≢◌, ◌==◌, ◌^◌, nat_lt, not, if◌then◌else◌, List, [], ◌∷◌, length, drop, map}
 use Rattle.std.specs.List.{AllByRecursion, filter}
-use Rattle.w16_model.specs.{declared.Block.Block, declared.Span.Span, Gap.block_end, Gap.Misses, Gap.IsLaid, Gap.holes, Heap.IsMultiple}
+use Rattle.w16_model.specs.{declared.Block.Block, declared.Span.Span, Gap.block_end, Gap.Misses, Gap.IsLaid, Law.holes, Heap.IsMultiple}
 use Rattle.w16_holes.specs.Holes.{Range}
 
 -- what a list of blocks is: its ids are below `cap`, its blocks lie in [lo, hi) at multiples of the grain, listed by address

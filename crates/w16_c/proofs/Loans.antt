@@ -3,7 +3,7 @@ use Rattle.w16_c.proofs.Common.{◌≡◌, ℕ, Bool, true, false, Ok, Err, leng
 use Rattle.w16_c.proofs.ReplyKinds.{done_calls}
 use Rattle.std.proofs.Common.{◌≢◌, ◌∙◌, arith, inl, inr}
 use Rattle.w16_loading.specs.Replies.Reply.{Bytes, Failed, Fault}
-use Rattle.w16_machine.specs.Machine.{IsCommand}
+use Rattle.w16_machine.specs.Law.{IsCommand}
 use Rattle.w16_writes.proofs.Promises.{promised_step}
 use Rattle.w16_model.specs.Heap.{bytes_at}
 use Rattle.w16_global.proofs.Loans.{part_length}

@@ -6,7 +6,7 @@ use Rattle.w16_loading.specs.Replies.Reply.{Word, Dword, Bytes, Done, Fault, Fai
 use Rattle.w16_loading.specs.{declared.FetchFault.FetchFault, Replies.Reply}
 use Rattle.w16_model.specs.Far.FarCommand.{Read}
 use Rattle.w16_loading.specs.Families.LoadingCommand.{OfFar}
-use Rattle.w16_machine.specs.Machine.{Command, Command.OfLoading, IsCommand, IsSame}
+use Rattle.w16_machine.specs.{Law.IsCommand, Law.IsSame, Machine.Command, Machine.Command.OfLoading}
 use Rattle.w16_writes.specs.Promises.{Promises}
 use Rattle.w16_global.specs.{Loans.lent_bytes, declared.loan.Place.Place}
 use Rattle.w16_kernel.specs.{Lent.IsFound, Lent.IsTaken, Lent.OfEach, Parts.KernelStep, Runs.TakesMemory}

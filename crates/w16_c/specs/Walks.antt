@@ -1,6 +1,6 @@
 -- Parts of the heap, as C sees them.
 use Rattle.std.specs.Prelude.{◌≡◌, ℕ, Option, Some, None}
-use Rattle.w16_model.specs.{declared.Kind.Kind, declared.Item.Item, Handles.handle_of, Walk.IsFirstItem}
+use Rattle.w16_model.specs.{declared.Kind.Kind, declared.Item.Item, Handles.handle_of, Law.IsFirstItem}
 use Rattle.w16_c.specs.declared.status.TheConstants.{DONE, END}
 use Rattle.w16_c.specs.{declared.held.Held.Held, declared.part.Part.Part}
 use Rattle.w16_model.specs.declared.Kind.TheVariants as kinds

@@ -1,6 +1,6 @@
 //! Machines begin and end.
 ghost use Rattle.std.specs.Prelude.{◌≡◌, ◌⊎◌, [], true, false, IfOk, IfSome, is_some};
-ghost use Rattle.w16_machine.specs.World.{empty_world};
+ghost use Rattle.w16_machine.specs.Law.{empty_world};
 ghost use Rattle.w16_kernel.specs.Sizes.{IsMemorySize, IsSelectorCount};
 ghost use Rattle.w16_c.specs.declared.life.TheConstants.{VERSION};
 

@@ -2,7 +2,7 @@
 ghost use Rattle.std.specs.Prelude.{◌≡◌, [], None, IfOk, IfErr, Err};
 ghost use Rattle.std.specs.String.{string_bytes};
 ghost use Rattle.std.specs.Io.Buffered.{writer_buffer, writer_contents};
-ghost use Rattle.w16_machine.specs.World.{empty_world};
+ghost use Rattle.w16_machine.specs.Law.{empty_world};
 ghost use Rattle.w16_kernel.specs.Parts.{KernelStep};
 ghost use Rattle.w16_kernel.specs.Sizes.{IsMemorySize, IsSelectorCount};
 ghost use Rattle.w16_command.specs.Faults.{IsOfFiles};

@@ -1,6 +1,6 @@
 -- A gap with room.
 use Rattle.std.specs.Prelude.{ℕ, ◌+◌, ◌≤◌, ◌≡◌, List, Option, Some, None}
-use Rattle.w16_model.specs.{declared.Block.Block, Gap.IsGap, Gap.loose_bytes, Heap.IsMultiple}
+use Rattle.w16_model.specs.{declared.Block.Block, Arrangement.IsGap, Gap.loose_bytes, Heap.IsMultiple}
 use Rattle.w16_blocks.specs.Layout.{Layout, all_but}
 use Rattle.w16_compact.specs.{declared.gaps.Gap.Gap, Gather.MayGather}
 

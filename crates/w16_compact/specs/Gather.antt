@@ -1,7 +1,7 @@
 -- Blocks slid to the low end of a gap.
 use Rattle.std.specs.Prelude.{ℕ, IsTrue, ◌+◌, ◌<◌, ◌≤◌, ◌≡◌, ◌==◌, ◌⊎◌, nat_lt, if◌then◌else◌, List, [], ◌∷◌, map}
 use Rattle.std.specs.List.{AllByRecursion}
-use Rattle.w16_model.specs.{Bytes.part, declared.Block.Block, declared.Hold.TheVariants.Loose, Gap.block_end, Gap.is_any, Gap.is_pinned, Gap.IsClear, Gap.IsGap, Gap.IsHole}
+use Rattle.w16_model.specs.{Bytes.part, declared.Block.Block, declared.Hold.TheVariants.Loose, Gap.block_end, Gap.is_any, Gap.is_pinned, Gap.IsClear, Arrangement.IsGap, Gap.IsHole}
 use Rattle.w16_blocks.specs.Layout.{Layout}
 
 -- blocks by address, those below `high` one after another from `to` on, and the others as they are

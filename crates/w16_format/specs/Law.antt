@@ -5,7 +5,7 @@ use Rattle.std.specs.List.{list_all}
 use Rattle.w16_store.specs.{declared.store.StoreFault.TheVariants.Missing, Files.file_of}
 use Rattle.w16_ne.specs.{declared.fault.NeFault.NeFault, declared.fault.NeFault.TheVariants.Store, declared.segment_table.Segment.Segment, Resources.Label, Resources.Entry, Modules.Tables, Modules.tables_at, Modules.entry_at, Modules.resource_at, Names.ordinal_in}
 use Rattle.w16_reloc.specs.{declared.record.Record.Record, Segments.Held, Segments.any_offer, Segments.checked, Segments.data_of, Sound.IsSound, Sound.IsSoundSegment, Images.IsImage, Naming.naming, Law.IsFar}
-use Rattle.w16_loading.specs.{File.IsFormat, File.Far, File.numbered, Law.IsOfFiles, Modules.LoadingWorld, Modules.Module, Modules.module_at, Closure.are_sound, Fetch.segment_bytes, Fetch.resource_bytes}
+use Rattle.w16_loading.specs.{Law.IsFormat, File.Far, File.numbered, Law.IsOfFiles, Modules.LoadingWorld, Modules.Module, Modules.module_at, Closure.are_sound, Fetch.segment_bytes, Fetch.resource_bytes}
 use specs.Tables.{segment_in, entry_in, resource_in, tables_in}
 use specs.Data.{data_in, contents_in, target_of, far_in, far_of}
 use specs.Ne.{module_file, number_of, ne_format, plain_format}

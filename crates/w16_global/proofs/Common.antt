@@ -53,7 +53,8 @@ pub use Rattle.w16_model.proofs.Runs.{IsIn, first_in, is_owner, no_owner, none_o
 pub use Rattle.w16_model.proofs.Tables.{get-by_id}
 pub use Rattle.w16_model.specs.Calls.{global_size, selector_base, selector_limit}
 pub use Rattle.w16_model.specs.Handles.{HasNoRun}
-pub use Rattle.w16_model.specs.Owned.{owned_at, owned_in, revival_options, without_slot}
+pub use Rattle.w16_model.specs.Owned.{owned_at, owned_in, revival_options}
+pub use Rattle.w16_model.specs.Law.{without_slot}
 pub use Rattle.w16_model.specs.Reallocation.{IsResized}
 pub use Rattle.w16_model.specs.Resizes.{CanExtend, GetsRun, GlobalDiscards, LacksRun, may_leave, rehoused, rekeyed, with_run}
 pub use Rattle.w16_model.specs.declared.Attributes.{Attributes}

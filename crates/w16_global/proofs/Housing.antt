@@ -6,7 +6,7 @@ use proofs.Common.{◌≡◌, ◌≢◌, ℕ, ◌+◌, ◌-◌, ◌<◌, ◌≤�
 use proofs.Common.{FIRST_SLOT, Heap, Object, object_at, bytes_at, bytes_in, rekeyed, rehoused, slots_at, HasSize, attributes_in, is_in_run, kind_for, kind_in, owner_in, says, slots_in}
 use proofs.Owners.{attributes_at, free_selector, labelled, nothing}
 use proofs.{Described.same_described, Joined.others_labelled, Told.is_in}
-use Rattle.w16_model.specs.{Handles.AreRuns, Handles.owner_of, declared.RoomOptions.RoomOptions}
+use Rattle.w16_model.specs.{Law.AreRuns, Handles.owner_of, declared.RoomOptions.RoomOptions}
 use Rattle.w16_model.proofs.{Rehoused.rekeyed_at, Rehoused.swap_to, Rehoused.swap_other, Runs.runs_without}
 use Rattle.std.specs.FinMap as finmap
 use Rattle.w16_selectors.specs.Descriptors as selectors

@@ -8,7 +8,7 @@ use proofs.Owners.{attributes_at, joined_same, labelled, nothing}
 use proofs.Joined.{attributes_set, attributes_unset, others_described, others_labelled, sized_set, slot_there}
 use proofs.Told.{is_in, owner_there, owner_with, owner_without}
 use proofs.Described.{lock_same, unlock_same, removed_other, entered_here, entered_other}
-use Rattle.w16_model.specs.Handles.{AreRuns, owner_of}
+use Rattle.w16_model.specs.{Handles.owner_of, Law.AreRuns}
 use Rattle.std.specs.FinMap as finmap
 use Rattle.w16_model.specs.declared.Refusal.TheVariants as refusals
 use Rattle.w16_selectors.specs.Descriptors as selectors

@@ -3,7 +3,7 @@ use Rattle.w16_model.proofs.Common as C
 use Rattle.w16_global.proofs.Common.{◌≡◌, ℕ, false≢true, sym, ap, ◌∙◌, subst, AreHandles, Handles, handle_of, slot_of_handle, object_at, Object, Option, Some, None, option_map, unwrap_or, IsSomeAnd, GlobalReAllocs, Global, counted, zeroed_behind}
 use Rattle.w16_global.proofs.Resizing.{counted_none}
 use Rattle.w16_model.proofs.{Common.Calls, Common.ReAllocs, Common.Word, CallOutcomes.outcome, Fewest.some_handle, Naming.names_law, ResizedHandles.found_some}
-use Rattle.w16_model.specs.Resizes.{ReallocFewest}
+use Rattle.w16_model.specs.CallLaws.{ReallocFewest}
 use Rattle.w16_global.specs.Lengthened.{Lengthens}
 
 -- the handle of a slot's object

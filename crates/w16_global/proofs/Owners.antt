@@ -4,7 +4,7 @@ use proofs.Common as C
 use Rattle.std.proofs.lemmas.Bool.{eqb-true}
 use proofs.Common.{◌≡◌, ℕ, ◌+◌, ◌-◌, ◌<◌, ◌≤◌, ◌==◌, ◌/◌, inl, inr, ◌&&◌, Bool, true, false, if◌then◌else◌, List, length, get_or, Option, Some, None, option_map, unwrap_or, is_some, refl, sym, ap, ◌∙◌, subst, arith, false≢true, Attributes, FIRST_SLOT, Heap, Handles, Object, object_at}
 use proofs.Common.{AreHandles, IsFreeSlot, Part, slots_at, owner_of, part_of_selector, owner_is, All, after_write, descriptor_at, unset, IsUntaken, Descriptor, SelKind, Holding, attributes_in, handles_of, descriptor_for, described, kind_in, label_of, owner_in, says, AreJoined}
-use Rattle.w16_model.specs.Handles.{IsRun}
+use Rattle.w16_model.specs.Law.{IsRun}
 use Rattle.w16_global.specs.{Housed.slots_in, Runs.reaching}
 use Rattle.std.specs.FinMap as finmap
 use Rattle.w16_selectors.specs.Descriptors as selectors

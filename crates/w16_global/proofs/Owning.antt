@@ -4,7 +4,7 @@ use proofs.Common as C
 use proofs.Common.{◌≡◌, ℕ, ◌/◌, ◌<◌, ◌≤◌, ◌⊎◌, ◌==◌, inl, inr, Bool, true, false, if◌then◌else◌, IfNone, IfSome, IsSomeAnd, List, length, take, Option, Some, None, is_some, refl, sym, ap, ◌∙◌, subst, arith, false≢true, nat_cmp, Attributes, Kind, Owned, GRAIN, REACH, Handles, AreHandles}
 use proofs.Common.{Heap, Object, IsMultiple, object_at, bytes_at, revival_options, owned_at, Allocates, Reallocates, GetsRun, rehoused, with_run, slots_for, moved_bytes, counted, Global, handles_of, Holding}
 use proofs.{Joining.attributes_shown, Resizing.counted_none}
-use Rattle.w16_model.specs.{Owned.Revives, Request.Grows, Request.ReallocatesObject}
+use Rattle.w16_model.specs.{Law.Revives, Request.Grows, Request.ReallocatesObject}
 use Rattle.w16_model.proofs.{Housed.stays, Naming.names_law, Runs.owned_slots, Runs.slots_of}
 use Rattle.std.specs.FinMap as finmap
 use Rattle.w16_model.specs.declared.Kind.TheVariants as kinds

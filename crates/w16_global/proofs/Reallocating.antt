@@ -9,7 +9,7 @@ use proofs.Joined.{slot_there}
 use proofs.Sliding.{StandStill, all_gone, rest_says, was_there}
 use proofs.Told.{finished, run_known, run_sized, told_labelled}
 use Rattle.std.proofs.lemmas.List.{with_items_is}
-use Rattle.w16_model.specs.{Handles.AreRuns, Owned.owned_at, declared.Owned.Owned}
+use Rattle.w16_model.specs.{Law.AreRuns, Owned.owned_at, declared.Owned.Owned}
 use Rattle.w16_model.proofs.Housed.{anew_handles}
 use Rattle.std.specs.FinMap as finmap
 use Rattle.w16_selectors.specs.Descriptors as selectors

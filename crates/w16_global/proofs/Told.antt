@@ -4,7 +4,7 @@ use proofs.Common as C
 use proofs.Common.{◌≡◌, ◌≢◌, ℕ, ◌+◌, ◌-◌, ◌<◌, ◌≤◌, ◌==◌, ◌||◌, if◌then◌else◌, inl, inr, Bool, true, false, List, length, Option, Some, None, option_map, is_some, unwrap_or, refl, sym, ap, ◌∙◌, subst, arith, nat_tests, false≢true, Attributes, Heap, Object, object_at, bytes_at, IsIn}
 use proofs.Common.{is_owner, none_owns, owner_is, slots_at, slots_for, descriptor_at, kind_at, number_at, unset, Descriptor, SelKind, handles_of, attributes_in, AreLabelled, described, in_run, is_in_run, kind_in, label_of, owner_in, reaching, says, slots_in, told}
 use proofs.{Described.made_here, Owners.attributes_at}
-use Rattle.w16_model.specs.Handles.{AreRuns, owner_of}
+use Rattle.w16_model.specs.{Handles.owner_of, Law.AreRuns}
 use Rattle.std.specs.FinMap as finmap
 use Rattle.w16_selectors.specs.Descriptors as selectors
 

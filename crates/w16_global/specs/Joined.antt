@@ -2,7 +2,7 @@
 use Rattle.std.specs.Prelude.{◌≡◌, ℕ, ◌-◌, ◌<◌, ◌≤◌, ◌==◌, Bool, false, ◌&&◌, ◌||◌, if◌then◌else◌, nat_le, nat_lt, List, length, IfSome, Option, Some, None, option_map, unwrap_or, slice_index_or, refl}
 use Rattle.std.specs.{Coded.Coded, Coded.code_by, Coded.coded×, Coded.coded_ℕ, Ordering.nat_cmp, FinMap.FinMap}
 use Rattle.w16_model.specs.declared.TheConstants.{FIRST_SLOT, GRAIN, REACH, GMEM_MODIFY, GMEM_ZEROINIT}
-use Rattle.w16_model.specs.Handles.{Handles, AreHandles, owner_of}
+use Rattle.w16_model.specs.{Handles.Handles, Handles.owner_of, Law.AreHandles}
 use Rattle.w16_model.specs.{declared.Attributes.Attributes, declared.Owned.Owned, Calls.global_size, Calls.has_flag, Calls.rounded_size, Codes.handles_code, Heap.Heap, Heap.Object, Heap.IsMultiple, Heap.object_at, Table.by_id, Owned.owned_in}
 use Rattle.w16_selectors.specs.{Descriptors.descriptor_at, Descriptors.unset, declared.Descriptor.Descriptor, declared.SelKind.SelKind, declared.SelKind.TheVariants.Data, declared.SelKind.TheVariants.Code}
 use Rattle.w16_global.specs.{Parts.Holding, Runs.reaching}

@@ -1,6 +1,6 @@
 -- Segments of local heaps that grow.
 use Rattle.std.specs.Prelude.{◌≡◌, ℕ}
-use Rattle.w16_model.specs.{Handles.Handles, Resizes.GlobalReAllocs, Resizes.ReallocFewest}
+use Rattle.w16_model.specs.{Handles.Handles, Resizes.GlobalReAllocs, CallLaws.ReallocFewest}
 use Rattle.w16_region.specs.Bytes.{counted}
 use Rattle.w16_global.specs.Joined.{Global, zeroed_behind}
 

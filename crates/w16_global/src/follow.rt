@@ -2,7 +2,7 @@
 ghost use Rattle.std.specs.Prelude.{All, ◌≡◌, ◌<◌, ◌≤◌, ◌⊎◌, ◌||◌, ◌^◌, ◌+◌, ℕ, None, length, option_map, IfSome, IfNone, Some};
 ghost use Rattle.std.specs.FinMap as finmap;
 ghost use Rattle.w16_model.specs.Discards.{is_member};
-ghost use Rattle.w16_model.specs.Handles.{AreHandles};
+ghost use Rattle.w16_model.specs.Law.{AreHandles};
 ghost use Rattle.w16_model.specs.Heap.{IsHeap, bytes_at};
 ghost use Rattle.w16_selectors.specs.Descriptors.{descriptor_at};
 ghost use Rattle.w16_global.specs.Joined.{AreLabelled, begins_in, handles_of, told};

@@ -3,13 +3,13 @@ ghost use Rattle.std.specs.Prelude.{◌≡◌, ◌≢◌, ◌+◌, ◌-◌, ◌%
 ghost use Rattle.std.specs.FinMap as finmap;
 ghost use Rattle.std.specs.Borrow.{sem};
 ghost use Rattle.w16_region.specs.Lending.{LendsWhole};
-ghost use Rattle.w16_model.specs.Heap.{IsHeap, object_at, bytes_at, empty_heap, IsMultiple};
+ghost use Rattle.w16_model.specs.{Heap.IsHeap, Heap.IsMultiple, Heap.bytes_at, Heap.object_at, Law.IsFirstItem, Law.by_its_id, Law.empty_heap};
 ghost use Rattle.w16_model.specs.Changes.{with_object, removed, without};
 ghost use Rattle.w16_model.specs.Request.{Allocates, Compacts, Reallocates, compaction_prefix, moved_bytes};
 ghost use Rattle.w16_model.specs.OneObject.{after_discard, after_modify, after_lock, after_unlock, after_touch, after_newest, after_oldest};
 ghost use Rattle.w16_model.specs.Far.{after_write};
 ghost use Rattle.w16_model.specs.Resizes.{rehoused};
-ghost use Rattle.w16_model.specs.Walk.{IsFirstItem, IsItem, by_its_id};
+ghost use Rattle.w16_model.specs.Walk.{IsItem};
 ghost use Rattle.w16_model.specs.Bytes.{part};
 ghost use Rattle.w16_region.specs.Bytes.{counted};
 ghost use Rattle.w16_arena.specs.State.{entry_of};

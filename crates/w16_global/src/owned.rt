@@ -2,7 +2,7 @@
 ghost use Rattle.std.specs.Prelude.{◌≡◌, ◌/◌, ◌<◌, ◌≤◌, IsTrue, IsFalse, IfSome, IfNone, Some, true, false, option_map, unwrap_or};
 ghost use Rattle.w16_model.specs.Handles as handles;
 ghost use Rattle.w16_model.specs.Heap.{IsMultiple};
-ghost use Rattle.w16_model.specs.Owned.{TakesOwned, Revives, without_slot};
+ghost use Rattle.w16_model.specs.Law.{Revives, TakesOwned, without_slot};
 ghost use Rattle.w16_model.specs.Owned as owned;
 ghost use Rattle.w16_model.specs.Request.{moved_bytes};
 ghost use Rattle.w16_region.specs.Bytes.{counted};

@@ -3,6 +3,7 @@ ghost use Rattle.std.specs.Prelude.{◌≡◌, ◌<◌, ℕ, Some, IsSome, optio
 ghost use Rattle.w16_model.specs.Handles as handles;
 ghost use Rattle.w16_model.specs.Heap.{Object, object_at};
 ghost use Rattle.w16_model.specs.Resizes as resizes;
+ghost use Rattle.w16_model.specs.CallLaws as call_laws;
 ghost use Rattle.w16_region.specs.Bytes.{counted};
 ghost use Rattle.w16_global.specs.Joined.{zeroed_behind};
 ghost use Rattle.w16_global.specs.Lengthened.{Lengthens};
@@ -32,7 +33,7 @@ impl<A: Allocator + Copy> Global16<A> {
     pub fn global_realloc(&mut self, handle: u16, size: u32, flags: GlobalReAllocFlags) -> u16
         ensures step { resizes.GlobalReAllocs self.old.handles handle size flags.0 result self.new.handles }
         ensures written { self.new.written ≡ counted (counted self.old.written self.new.handles.moved) (zeroed_behind self.old.handles handle size flags.0 result) }
-        ensures fewest { resizes.ReallocFewest self.old.handles handle size flags.0 result self.new.handles }
+        ensures fewest { call_laws.ReallocFewest self.old.handles handle size flags.0 result self.new.handles }
     {
         self.reveal_handles();
         self.change_object(handle, size, flags)

@@ -39,7 +39,8 @@ pub use Rattle.w16_machine.proofs.LocalStays.{heaps_law}
 pub use Rattle.w16_machine.proofs.Stepped.{handles_step}
 pub use Rattle.w16_machine.proofs.Worlds.{files_law, world_law}
 pub use Rattle.w16_machine.specs.LocalStays.{step_may_take}
-pub use Rattle.w16_machine.specs.Machine.{IsSame, Steps}
+pub use Rattle.w16_machine.specs.Machine.{Steps}
+pub use Rattle.w16_machine.specs.Law.{IsSame}
 pub use Rattle.w16_writes.proofs.Promises.{promised_append, promised_none, promised_step}
 pub use Rattle.w16_writes.specs.Promises.{Promises}
 pub use Rattle.w16_model.proofs.Listed.{walk_law}

@@ -4,8 +4,8 @@ use proofs.Common as C
 use proofs.Common.{Err, None, Some, Ok, ne_format, Refetches, IsWorldOver, reply_of, Bool, Dword, FarAnswer, FarCommand, FarFault, FarReplies, Fill, Handles, LoadingWorld, OfFar, Read, Step, Table, World, Write, ap, false, false≢true, far_slot, gives, inl, inr, left_in, needs_fetch, refl}
 use proofs.Common.{reply_of_far, selector_in, subst, sym, true, with_handles, ℕ, ◌∙◌, ◌≡◌, Moved}
 use proofs.Stepping.{stay}
-use Rattle.w16_loading.specs.{Answers.FetchesOver, Families.access_of, Replies.Reply.Bytes, Replies.Reply.Done, Replies.Reply.Fault}
-use Rattle.w16_model.specs.Effects.{pointer_in}
+use Rattle.w16_loading.specs.{Law.FetchesOver, Families.access_of, Replies.Reply.Bytes, Replies.Reply.Done, Replies.Reply.Fault}
+use Rattle.w16_model.specs.Far.{pointer_in}
 use Rattle.w16_kernel.specs.{declared.call.Reply.Reply}
 use Rattle.w16_loading.specs.Replies as printed
 

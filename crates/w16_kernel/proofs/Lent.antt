@@ -7,7 +7,7 @@ use proofs.Common.{Refetches, with_handles, left_in, selector_in, offset_in, far
 use proofs.{Absent.by_fault, FarSteps.Makes, FarSteps.answered, FarSteps.ended_by, FarSteps.remade_by, Stepping.asks, Stepping.kept, Stepping.reads_code}
 use Rattle.w16_model.specs.declared.FarFault.TheVariants.{BadSelector, ReadOnly, NotPresent, Limit}
 use Rattle.w16_global.proofs.Common.{counted}
-use Rattle.w16_model.specs.{Effects.pointer_in, Far.after_write, Far.far_read, Handles.Gives}
+use Rattle.w16_model.specs.{Far.pointer_in, Far.after_write, Far.far_read, Handles.Gives}
 use Rattle.std.specs.FinMap as finmap
 use Rattle.w16_machine.proofs.LocalFar.{far_reply}
 use Rattle.w16_loading.specs.{Replies.Reply as Printed, Replies.Reply.Bytes, Replies.Reply.Done, Replies.Reply.Fault}

@@ -1,7 +1,7 @@
 -- Calls on modules and resources.
 use Rattle.w16_kernel.proofs.Common as C
 use Rattle.w16_kernel.proofs.Common.{ne_format, load_command, LoadsFrom, told, Fills, Bool, List, LoadingWorld, arith, false, subst, sym, true, ℕ, ◌≡◌}
-use Rattle.w16_loading.specs.{Load.Answer, Answers.Answers, Answers.FillsFewest}
+use Rattle.w16_loading.specs.{Load.Answer, Answers.Answers, Fewest.FillsFewest}
 use Rattle.w16_machine.proofs.Stepped.{fetching, loading}
 use Rattle.w16_loading.proofs.Requests.{load_fills}
 use Rattle.w16_loading.specs.Families as families

@@ -3,7 +3,7 @@ use Rattle.w16_kernel.proofs
 use proofs.Common as C
 use proofs.Common.{None, Option, Some, slice_get, ◌-◌, ◌/◌, IsSourceFor, Module, segment_among, told, Bool, FarAnswer, List, LoadingWorld, ap, arith, false, far_slot, length, needs_fetch, refl, subst, sym, true, ℕ, ◌<◌, ◌∙◌, ◌≡◌, ◌≤◌, is_owned, stays}
 use proofs.Absent.{lacks, slot_is}
-use Rattle.w16_loading.specs.{Owner.Owner.OfSegment, Owner.Owner.Script, Answers.FillsFewest}
+use Rattle.w16_loading.specs.{Owner.Owner.OfSegment, Owner.Owner.Script, Fewest.FillsFewest}
 use Rattle.w16_model.specs.declared.FarFault.TheVariants.{NotPresent}
 use Rattle.w16_loader.specs.{declared.table.SegmentOf.SegmentOf, declared.segment_fetch.SegmentSource.SegmentSource, Fetching.GivesSegment}
 use Rattle.w16_loader.proofs.Fetches.{fetches}

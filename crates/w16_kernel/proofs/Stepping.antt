@@ -3,7 +3,7 @@ use Rattle.w16_kernel.proofs
 use proofs.Common as C
 use proofs.Common.{ne_format, IsWorldOver, with_surviving, may_take_bytes, reply_of, StepOver, Bool, Command, Dword, Heap, IsCommand, LoadingCommand, LoadingWorld, OfFar, OfHandles, OfLoading, Step, World, [], false, false≢true, left_in, refl, sym, true, ℕ, ◌∷◌, ◌≡◌, ◌≤◌, step_may_take, Moved}
 use Rattle.w16_loading.proofs.Requests.{requests_fewest_law}
-use Rattle.w16_loading.specs.{Answers.FewestOver, Replies.Reply.Bytes}
+use Rattle.w16_loading.specs.{Fewest.FewestOver, Replies.Reply.Bytes}
 use Rattle.w16_model.specs.Far.FarCommand.{Read}
 use Rattle.w16_kernel.specs.declared.call.Reply.{Reply}
 use Rattle.w16_loading.specs.Replies as printed

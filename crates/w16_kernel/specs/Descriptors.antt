@@ -2,7 +2,7 @@
 use Rattle.std.specs.Prelude.{◌≡◌, ℕ, Bool, false}
 use Rattle.w16_global.specs.Peek.{selector_descriptor}
 use Rattle.w16_loading.specs.Replies.{Reply}
-use Rattle.w16_machine.specs.{Local.AreLocalHeaps, LocalLaw.may_grow, LocalStays.step_may_take, Machine.Command, World.World}
+use Rattle.w16_machine.specs.{Law.AreLocalHeaps, LocalLaw.may_grow, LocalStays.step_may_take, Machine.Command, World.World}
 use Rattle.w16_machine.specs.Machine.Command.{OfLoading, OfLocals}
 use Rattle.w16_kernel.specs.Parts.{KernelStep}
 

@@ -2,7 +2,7 @@
 use Rattle.std.specs.Prelude.{◌≡◌, ℕ, ◌⊎◌, true, false, Option, Some, None, Result, Ok, Err}
 use Rattle.w16_model.specs.{declared.FarFault.FarFault, Far.far_slot, Handles.Handles, Handles.Part, Handles.part_of_selector, Heap.bytes_at}
 use Rattle.w16_store.specs.Later.{IsLater}
-use Rattle.w16_loading.specs.{declared.FetchFault.FetchFault, Answers.FetchesOver, Fetch.needs_fetch, Modules.IsSegmentOf, Modules.LoadingWorld, Modules.Module, Replies.Reply.Failed, Replies.Reply.Fault}
+use Rattle.w16_loading.specs.{declared.FetchFault.FetchFault, Law.FetchesOver, Fetch.needs_fetch, Modules.IsSegmentOf, Modules.LoadingWorld, Modules.Module, Replies.Reply.Failed, Replies.Reply.Fault}
 use Rattle.w16_format.specs.{Ne.ne_format, Tables.tables_in}
 use Rattle.w16_loader.specs.{declared.segment_fetch.SegmentSource.SegmentSource, Fetching.IsSourceOf}
 use Rattle.w16_kernel.specs.Runs.{reply_of}

@@ -2,7 +2,7 @@
 use Rattle.std.specs.Prelude.{◌≡◌, ℕ, Bool, true, false, List, length, Some, Result, Ok, Err}
 use Rattle.w16_model.specs.{declared.FarFault.FarFault, Handles.Handles, Handles.offset_in, Handles.selector_in, Far.FarCommand, Far.FarCommand.Read, Far.FarCommand.Write}
 use Rattle.w16_global.specs.{Access.access_fault, Loans.IsPlaceIn, Loans.left_of, Loans.lent_bytes, Loans.with_bytes_there, declared.loan.Place.Place}
-use Rattle.w16_loading.specs.{Families.LoadingCommand.OfFar, Modules.with_handles, Replies.FarReplies, Replies.Reply, Replies.Reply.Bytes, Replies.Reply.Done, Replies.Reply.Failed, Replies.Reply.Fault}
+use Rattle.w16_loading.specs.{Families.LoadingCommand.OfFar, Modules.with_handles, Law.FarReplies, Replies.Reply, Replies.Reply.Bytes, Replies.Reply.Done, Replies.Reply.Failed, Replies.Reply.Fault}
 use Rattle.w16_machine.specs.{World.World, Machine.Command.OfLoading}
 use Rattle.w16_kernel.specs.{Parts.IsWorldOver, Parts.KernelStep, Runs.reply_of}
 use Rattle.w16_kernel.specs.declared.call.Reply as code

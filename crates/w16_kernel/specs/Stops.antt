@@ -1,5 +1,5 @@
 -- A run that ended early for want of memory.
-use Rattle.w16_machine.specs.{World.World, Machine.Event, Machine.IsSame, Machine.Steps, Machine.Run}
+use Rattle.w16_machine.specs.{World.World, Machine.Event, Law.IsSame, Machine.Steps, Machine.Run}
 use Rattle.std.specs.Prelude.{◌≡◌, ℕ, ◌⊎◌, List, map, take, slice_get, IsSomeAnd}
 use Rattle.w16_writes.specs.Promises.{Promises}
 use Rattle.w16_kernel.specs.{declared.call.Call.Call, Runs.command_of, Runs.TakesMemory}

@@ -1,9 +1,9 @@
 //! The machine's state, and its steps.
 ghost use Rattle.std.specs.Prelude.{◌≡◌, ◌+◌, ◌%◌, ◌^◌, ◌<◌, ◌≤◌, List, [], ◌∷◌, map, slice_get, All, None, IfSome, IfOk, IfErr, OnOk, OnErr};
 ghost use Rattle.w16_model.specs.Handles.{handle_of};
-ghost use Rattle.w16_model.specs.Walk.{IsFirstItem, IsItem};
-ghost use Rattle.w16_machine.specs.World.{IsWorldWalk, empty_world};
-ghost use Rattle.w16_machine.specs.Machine.{Event, IsSame, Run};
+ghost use Rattle.w16_model.specs.{Law.IsFirstItem, Walk.IsItem};
+ghost use Rattle.w16_machine.specs.Law.{IsSame, IsWorldWalk, empty_world};
+ghost use Rattle.w16_machine.specs.Machine.{Event, Run};
 ghost use Rattle.w16_writes.specs.Promises.{Promises};
 ghost use Rattle.w16_store.specs.Files.{file_of};
 ghost use Rattle.w16_kernel.specs.Growing.{AddsFile, IsNotAdded};

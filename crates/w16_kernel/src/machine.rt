@@ -1,10 +1,10 @@
 //! What a run asks of a machine.
 ghost use Rattle.std.specs.Prelude.{◌≡◌, ◌+◌, ◌^◌, ◌<◌, ◌≤◌, List, [], ◌∷◌, IfSome, IfOk, OnErr};
 ghost use Rattle.w16_model.specs.Handles.{handle_of};
-ghost use Rattle.w16_model.specs.Walk.{IsFirstItem, IsItem};
+ghost use Rattle.w16_model.specs.{Law.IsFirstItem, Walk.IsItem};
 ghost use Rattle.w16_loading.specs.Replies as printed;
-ghost use Rattle.w16_machine.specs.World.{IsWorldWalk, World};
-ghost use Rattle.w16_machine.specs.Machine.{Command, IsSame};
+ghost use Rattle.w16_machine.specs.{Law.IsSame, Law.IsWorldWalk, World.World};
+ghost use Rattle.w16_machine.specs.Machine.{Command};
 ghost use Rattle.w16_writes.specs.Promises.{Promises};
 ghost use Rattle.w16_kernel.specs.Parts.{KernelStep};
 ghost use Rattle.w16_kernel.specs.Runs.{command_of, reply_of, IsCall, IsReply, TakesMemory};

@@ -5,7 +5,7 @@ ghost use Rattle.w16_model.specs.Walk.{IsWalk};
 ghost use Rattle.w16_resource.specs.Parts.{IsLoadingOver};
 ghost use Rattle.w16_local.specs.Parts.{with_parts};
 ghost use Rattle.w16_machine.specs.World.{World};
-ghost use Rattle.w16_machine.specs.Machine.{IsCommand, IsSame};
+ghost use Rattle.w16_machine.specs.Law.{IsCommand, IsSame};
 ghost use Rattle.w16_writes.specs.Promises.{Promises};
 ghost use Rattle.w16_kernel.specs.Runs.{command_of, reply_of, HasRoom, IsCall, IsReply, TakesMemory};
 ghost use Rattle.w16_kernel.specs.Parts as meaning;

@@ -72,7 +72,7 @@ pub use Rattle.w16_loading.proofs.Owners.{of_segment}
 pub use Rattle.w16_loading.proofs.Undone.{chosen, fold_named, in_first, in_second, retained, taken_away, taken_back_law, undone_law, zipped}
 pub use Rattle.w16_loading.proofs.Values.{values_law}
 pub use Rattle.w16_loading.specs.Free.{EndsUse}
-pub use Rattle.w16_loading.specs.Law.{empty_loading_world}
+pub use Rattle.w16_loading.specs.Law.{AreModuleFiles, empty_loading_world}
 pub use Rattle.w16_loading.specs.Load.Answer.{StoreFails}
 pub use Rattle.w16_loading.specs.Modules.{free_modules, value_of, with_handles}
 pub use Rattle.w16_loading.specs.declared.FetchFault.{FetchFault}
@@ -85,14 +85,14 @@ pub use Rattle.w16_model.proofs.Orders.{without_absent}
 pub use Rattle.w16_model.proofs.Prefixes.{filter_same}
 pub use Rattle.w16_model.proofs.Runs.{IsIn, no_owner, none_owns, slots_beside, slots_with, unowned_beside, unused_slot}
 pub use Rattle.w16_model.specs.Handles.{owner_of}
-pub use Rattle.w16_model.specs.Owned.{Revives, TakesOwned}
+pub use Rattle.w16_model.specs.Law.{Revives, TakesOwned}
 pub use Rattle.w16_model.specs.declared.Attributes.{Attributes}
 pub use Rattle.w16_model.specs.declared.Kind.{Kind}
 pub use Rattle.w16_model.specs.declared.Kind.TheVariants.{Discardable, Fixed, Moveable}
 pub use Rattle.w16_model.specs.declared.Owned.{Owned}
 pub use Rattle.w16_model.specs.declared.TheConstants.{FIRST_SLOT, GRAIN}
 pub use Rattle.w16_ne.proofs.Common.{IsSized, drop-cons, err_from_is_err_and, filter-append, text_in}
-pub use Rattle.w16_loading.specs.File.{AreModuleFiles, Saying}
+pub use Rattle.w16_loading.specs.File.{Saying}
 pub use Rattle.w16_ne.proofs.ReferencesFormat.{text_read}
 pub use Rattle.w16_ne.specs.Modules.{imported_place}
 pub use Rattle.w16_ne.specs.declared.fault.NeFault.{NeFault}

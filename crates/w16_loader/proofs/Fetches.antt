@@ -8,7 +8,7 @@ use Rattle.w16_format.proofs.Relocated.{relocated_law}
 use Rattle.w16_format.specs.Tables.{tables_in}
 use Rattle.w16_reloc.specs.{Segments.any_offer, Sound.IsSoundSegment}
 use Rattle.w16_loader.specs.Fetching.{GivesOwned, GivesSegment, IsRelocatedBy, IsSoundSource}
-use Rattle.w16_loading.specs.Answers.{FetchesFrom, FillsFewest, GivesRead, MayFail, told}
+use Rattle.w16_loading.specs.{Answers.FetchesFrom, Answers.GivesRead, Answers.MayFail, Answers.told, Fewest.FillsFewest}
 use Rattle.w16_ne.specs.{declared.segment_table.Segment.Segment, Modules.Tables}
 use Rattle.w16_loading.proofs.Fewest.{fill_fewest}
 use Rattle.w16_loading.specs.Fetch as fetching

@@ -9,7 +9,8 @@ use proofs.Holdings.{bound_found, held_alike, some_held}
 use proofs.{Bindings.targets_in_all, Givings.turn_since}
 use Rattle.w16_loader.specs.{Devices.is_of_device, Devices.is_bind_device, Binding.IsBindFailure, Binding.IsUnread, declared.closure.Closure.Closure}
 use Rattle.w16_loading.specs.Load.{used_again}
-use Rattle.w16_loading.specs.Answers.{Answers, ClosesFrom, FillsFewest, GivesFrom, LoadsFrom, ReadsFile, follow, said_by, told}
+use Rattle.w16_loading.specs.Answers.{Answers, ClosesFrom, GivesFrom, LoadsFrom, ReadsFile, follow, said_by, told}
+use Rattle.w16_loading.specs.Fewest.{FillsFewest}
 use Rattle.w16_loading.proofs.{Fewest.fill_fewest, Fillings.in_turn_so, Fillings.one_heap, Named.named_heap}
 use Rattle.std.specs.FinMap as finmap
 use Rattle.w16_loading.specs.Closure as closing

@@ -5,7 +5,7 @@ use proofs.Common.{◌≡◌, ◌≢◌, ℕ, ◌-◌, ◌/◌, ◌<◌, ◌≤�
 use proofs.Common.{handle_of, Heap, Object, is_fixed, object_at, owned_at, LacksBytes, FetchFault, Store, ModuleFile, Segment, InTurn, Module, module_file, segment_in, tables_in, Files, fault_in, image_in, Part, IsUnfilled}
 use proofs.{Fetches.data_there, Fetches.sound_in, Fillings.one_turn, Fillings.zipped_at, Giving.some_at}
 use Rattle.w16_loader.specs.Fetching.{GivesOwned, IsSoundSource}
-use Rattle.w16_loading.specs.Answers.{FillsFewest, GivesRead, MayFail}
+use Rattle.w16_loading.specs.{Answers.GivesRead, Answers.MayFail, Fewest.FillsFewest}
 use Rattle.std.specs.FinMap as finmap
 use Rattle.w16_ne.specs.declared.segment_table.Segment as ne
 use Rattle.w16_ne.specs.Modules as ne_modules

@@ -5,7 +5,7 @@ use Rattle.w16_store.specs.Files.{file_of}
 use Rattle.w16_ne.specs.{declared.segment_table.Segment.Segment, Modules.Tables, Modules.tables_at}
 use Rattle.w16_reloc.specs.{declared.fault.RelocFault.RelocFault, declared.record.Record.Record, Images.IsImage, Law.IsFar, Segments.Held, Segments.any_offer, Segments.checked, Sound.IsSound, Sound.IsSoundSegment}
 use Rattle.w16_loading.specs.declared.FetchFault.TheVariants.{Store, Damaged}
-use Rattle.w16_loading.specs.{declared.FetchFault.FetchFault, Answers.FillsFewest, Answers.GivesRead, Answers.MayFail, Fill.Fills, Law.IsLoadingWorld, Law.IsOfFiles, Modules.LoadingWorld, Modules.Module, Modules.IsSegmentOf}
+use Rattle.w16_loading.specs.{declared.FetchFault.FetchFault, Fewest.FillsFewest, Answers.GivesRead, Answers.MayFail, Fill.Fills, Law.IsLoadingWorld, Law.IsOfFiles, Modules.LoadingWorld, Modules.Module, Modules.IsSegmentOf}
 use Rattle.w16_format.specs.{Data.data_in, Data.far_of, Ne.ne_format, Tables.tables_in}
 use Rattle.w16_store.specs.declared.store.StoreFault.TheVariants as stores
 use Rattle.w16_reloc.specs.declared.fault.RelocFault.TheVariants as relocs

@@ -4,7 +4,7 @@ use Rattle.std.specs.{List.AllZip, declared.alloc.AllocError.AllocError}
 use Rattle.w16_store.specs.Files.{file_of}
 use Rattle.w16_model.specs.Handles.{Handles}
 use Rattle.w16_format.specs.Ne.{ne_format}
-use Rattle.w16_loading.specs.Answers.{FillsFewest, GivesFrom, MayFail, told}
+use Rattle.w16_loading.specs.{Answers.GivesFrom, Answers.MayFail, Answers.told, Fewest.FillsFewest}
 use Rattle.w16_loading.specs.{Closure.are_sound, Free.without_module, Load.Answer, Load.LoadsNew, Load.refusal_of, Load.Answer.Says, Load.Answer.StoreFails, Modules.LoadingWorld, Modules.Module, Modules.Modules, declared.FetchFault.FetchFault}
 use Rattle.w16_loader.specs.declared.found.FileFault.TheVariants.{Refused, Device, OutOfMemory}
 use Rattle.w16_loader.specs.{declared.loading.LoadAnswer.LoadAnswer, declared.found.FileFault.FileFault, declared.binding.BindFault.BindFault, Closing.Files, Closing.said, Reached.IsAlike, Answering.AreHeld, Answering.answers_of, Fetching.in_parts, Registry.in_world}

@@ -2,7 +2,7 @@
 ghost use Rattle.std.specs.Prelude.{◌≡◌, ◌<◌, ℕ, List, fold, All, IfSome};
 ghost use Rattle.std.specs.FinMap as finmap;
 ghost use Rattle.w16_model.specs.Discards.{is_member};
-ghost use Rattle.w16_model.specs.Owned.{without_slot};
+ghost use Rattle.w16_model.specs.Law.{without_slot};
 ghost use Rattle.w16_loading.specs.Modules.{LoadingWorld, module_at, with_handles};
 ghost use Rattle.w16_loading.specs.Release.{without_objects};
 ghost use Rattle.w16_loading.specs.Free.{EndsUse, Go, without_module};

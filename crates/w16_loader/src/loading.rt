@@ -3,9 +3,9 @@ ghost use Rattle.std.specs.Prelude.{◌≡◌, ◌≤◌, ◌<◌, ℕ, Bool, fa
 ghost use Rattle.w16_store.specs.Later.{IsLater, RoseIf};
 ghost use Rattle.w16_loader.specs.Devices.{is_of_device, is_bind_device, is_load_device, is_file_device};
 ghost use Rattle.std.specs.FinMap as finmap;
-ghost use Rattle.w16_model.specs.Handles.{AreHandles};
+ghost use Rattle.w16_model.specs.Law.{AreHandles};
 ghost use Rattle.w16_loading.specs.Closure as closing;
-ghost use Rattle.w16_loading.specs.Answers.{FillsFewest, LoadsFrom, told};
+ghost use Rattle.w16_loading.specs.{Answers.LoadsFrom, Answers.told, Fewest.FillsFewest};
 ghost use Rattle.w16_loading.specs.Free.{without_module};
 ghost use Rattle.w16_loading.specs.Load as loading;
 ghost use Rattle.w16_loading.specs.Load.Answer.{Says, StoreFails};

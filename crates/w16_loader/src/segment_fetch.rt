@@ -1,6 +1,6 @@
 //! Fetches of segments: an object that has no bytes gets those of its module's file again.
 ghost use Rattle.std.specs.Prelude.{◌≡◌, ◌≤◌, ◌<◌, ◌-◌, ◌/◌, ℕ, List, length, IsTrue, IsFalse, IfErr, OnOk, OnErr, MatchResult, Some, Ok, Err, true, false, slice_get};
-ghost use Rattle.w16_model.specs.Owned.{Revives};
+ghost use Rattle.w16_model.specs.Law.{Revives};
 ghost use Rattle.w16_store.specs.Files.{file_of};
 ghost use Rattle.w16_store.specs.Later.{IsLater, RoseIf};
 ghost use Rattle.w16_ne.specs.declared.segment_table.Segment.{Segment};

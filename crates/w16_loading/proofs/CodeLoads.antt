@@ -3,7 +3,7 @@ use Rattle.w16_loading.proofs
 use proofs.Common.{◌≡◌, ◌≢◌, ℕ, ◌-◌, ◌<◌, inl, inr, ◌⊎◌, true, false, cond, ◌&&◌, List, [], ◌∷◌, length, fold, map, slice_get, slice_index_or, Option, Some, None, IfSome, IsSomeAnd, is_some, option_map, unwrap_or, Ok, refl, sym, ap, ◌∙◌, subst, arith, ne_eqb, AllZip, list_all, false≢true}
 use proofs.Common.{cases_eq, length-map, Heap, bytes_at, Member, EachPair, EachPair-from_AllPairs, inserted_here, inserted_other, bytes_in, Format, ModuleFile, Segment, SegmentData, Far, Target, targets_of, numbered, Owned, LoadingWorld, Module, IsSegmentOf, module_at, with_heap, Answers}
 use proofs.Common.{GivesFrom, Fills, Filling, InTurn, Closure, Found, are_sound, Choice, IsChoice, Given, all_slots, given, segments_of, with_segment, bound, named, fills, read_of, segment_bytes, is_code, IsLoadingWorld, CodeIsItsFiles, IsItsFiles, ModulesAreItsFiles, IsOfFiles}
-use proofs.Common.{unused_slot, Err, Result, file_of, said_by}
+use proofs.Common.{unused_slot, Err, file_of, said_by}
 use proofs.Undone.{chosen, fold_named, same_owned}
 use proofs.Given.{place_member, one_place, index_place, given_found, given_slot, given_slots_differ, one_given, new_or_old, IsFilledBy, filled_by, filled_chosen}
 use proofs.KeptCode.{IsFilled, ReadsAgain, image_of, read_in, fills_bytes}

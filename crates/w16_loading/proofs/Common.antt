@@ -8,24 +8,25 @@ pub use Rattle.std.proofs.lemmas.Slice.Zip.{AllZip-left}
 pub use Rattle.std.specs.FinMap.{get-retain_keys, nat_cmp-IsAntisymmetric, same_map}
 pub use Rattle.std.specs.List.{AllZip, list_all, position_or_len}
 pub use Rattle.std.specs.Option.{option_or}
-pub use Rattle.w16_loading.specs.Answers.{Answers, ClosesFrom, Ending, FetchesFrom, FillsFewest, GivesFrom, GivesRead, HasTables, IsOwnedSize, LoadsFileFrom, LoadsFrom, ReadsFile, RefusesFile, StepFrom, StepOver, follow, said_by, told}
+pub use Rattle.w16_loading.specs.Answers.{Answers, ClosesFrom, Ending, FetchesFrom, GivesFrom, GivesRead, HasTables, IsOwnedSize, LoadsFileFrom, LoadsFrom, ReadsFile, RefusesFile, StepFrom, StepOver, follow, said_by, told}
 pub use Rattle.w16_loading.specs.Bystanders.{IsFreedResource, IsReleased, IsStepAbout, IsUnloaded, IsUnused, MayGo, StepBystandersLaw, StepPinnedLaw, call_of, step_may_move_own}
-pub use Rattle.w16_loading.specs.Closure.{Around, Closes, Closure, Found, Reading, Referent, after, are_sound, around, begun, dll, followed, meant, reading, with_bound, with_found}
+pub use Rattle.w16_loading.specs.Closure.{Around, Closure, Found, Reading, Referent, are_sound, around, begun, dll, meant, with_bound, with_found}
+pub use Rattle.w16_loading.specs.Closing.{Closes, after, followed, reading}
 pub use Rattle.w16_loading.specs.Closure.Reading.{Meant, Read, Refused}
 pub use Rattle.w16_loading.specs.Closure.Referent.{New, There}
-pub use Rattle.w16_loading.specs.Families.{AddsBuiltIn, FamilyStep, FarStep, GivesBuiltIn, IsLoadingCommand, Loading, LoadingCommand, ModuleCommand, ModuleStep, ResourceCommand, ResourceStep, built_in}
+pub use Rattle.w16_loading.specs.Families.{AddsBuiltIn, FamilyStep, FarStep, GivesBuiltIn, Loading, LoadingCommand, ModuleCommand, ModuleStep, ResourceCommand, ResourceStep, built_in}
 pub use Rattle.w16_loading.specs.Families.LoadingCommand.{OfFar, OfHandles, OfModules, OfResizes, OfResources}
 pub use Rattle.w16_loading.specs.Families.ModuleCommand.{Builtin, FreeLibrary, FreeModule, GetModuleHandle, GetModuleUsage, GetProcAddress, LoadLibrary, LoadModule}
 pub use Rattle.w16_loading.specs.Families.ResourceCommand.{FindResource, FreeResource, LoadResource, LockResource, SizeofResource}
-pub use Rattle.w16_loading.specs.Fetch.{Accesses, Fetching, IsImage, far_read, far_write, gives, is_code, is_not_present, needs_fetch, read_of, reply_of_far, resource_bytes, segment_bytes}
-pub use Rattle.w16_loading.specs.Fewest.{RequestsFewestLaw}
-pub use Rattle.w16_loading.specs.File.{AreModuleFiles, Far, Format, IsContent, IsFormat, IsModuleFile, IsSegmentData, ModuleFile, Resource, Saying, Segment, SegmentData, Tables, Target, numbered, targets_of}
+pub use Rattle.w16_loading.specs.Fetch.{Accesses, Fetching, IsImage, far_read, far_write, gives, is_not_present, needs_fetch, read_of, reply_of_far, resource_bytes, segment_bytes}
+pub use Rattle.w16_loading.specs.Fewest.{FillsFewest, RequestsFewestLaw}
+pub use Rattle.w16_loading.specs.File.{Far, Format, IsModuleFile, IsSegmentData, ModuleFile, Resource, Saying, Segment, SegmentData, Tables, Target, numbered, targets_of}
 pub use Rattle.w16_loading.specs.File.Entry.{InSegment}
 pub use Rattle.w16_loading.specs.File.Target.{Import, ImportName, Internal, InternalEntry, System}
 pub use Rattle.w16_loading.specs.Fill.{Failure, Filling, Fills, Giving, InTurn, asked_of, is_of_read}
 pub use Rattle.w16_loading.specs.Free.{Frees, Go, is_left_over, used_less, without_module, without_orphans}
-pub use Rattle.w16_loading.specs.Law.{AnyStepLaw, BoundAlikeLaw, BoundOnceLaw, CallsKeepWorldsLaw, ClosureEndsLaw, ClosureFilesLaw, CodeIsItsFiles, CodeLaw, CodeReadsLaw, EarlyRefusalLaw, EmptyLaw, EmptyOfFilesLaw}
-pub use Rattle.w16_loading.specs.Law.{FetchAgainLaw, FetchFaultsLaw, FetchLaw, FetchRefusedLaw, FillLaw, FillsLaw, IsItsFiles, IsLoad, IsLoadingWorld, IsModule, IsObjectOf, IsOfFiles, IsRefusal, KeepsOwner}
+pub use Rattle.w16_loading.specs.Law.{AnyStepLaw, AreModuleFiles, BoundAlikeLaw, BoundOnceLaw, CallsKeepWorldsLaw, ClosureEndsLaw, ClosureFilesLaw, CodeIsItsFiles, CodeLaw, CodeReadsLaw, EarlyRefusalLaw, EmptyLaw, EmptyOfFilesLaw, IsLoadingCommand, is_code}
+pub use Rattle.w16_loading.specs.Law.{FetchAgainLaw, FetchFaultsLaw, FetchLaw, FetchRefusedLaw, FillLaw, FillsLaw, IsContent, IsFormat, IsItsFiles, IsLoad, IsLoadingWorld, IsModule, IsObjectOf, IsOfFiles, IsRefusal, KeepsOwner}
 pub use Rattle.w16_loading.specs.Law.{KeepsWorldsLaw, ModulesAreItsFiles, OneClosureLaw, OneEndLaw, OnlyDiscards, OwnersLaw, RefusedLoadLaw, SlotsLaw, TakenBackLaw, UndoneLaw, UsesApartLaw, ValuesLaw}
 pub use Rattle.w16_loading.specs.Law.{without_values}
 pub use Rattle.w16_loading.specs.Load.{Answer, Fulfils, LoadsNew, Refuses, after_use, left, outcome_of, refusal_of, undone, used_again}
@@ -72,8 +73,7 @@ pub use Rattle.w16_model.proofs.Outcomes.{address_law}
 pub use Rattle.w16_model.proofs.Parts.{All-repeated, length-put_part}
 pub use Rattle.w16_model.proofs.Prefixes.{filter_swapped}
 pub use Rattle.w16_model.proofs.ResizedHandles.{handle_law, resize_law}
-pub use Rattle.w16_model.specs.Effects.{pointer_in}
-pub use Rattle.w16_model.specs.Far.{FarCommand}
+pub use Rattle.w16_model.specs.Far.{FarCommand, pointer_in}
 pub use Rattle.w16_model.specs.Outcomes.{CallStep}
 pub use Rattle.w16_model.specs.Owned.{owned_at, owned_in, revival_options}
 pub use Rattle.w16_model.specs.declared.Attributes.{Attributes}

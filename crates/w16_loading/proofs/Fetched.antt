@@ -1,5 +1,5 @@
 -- Fetches: what they keep.
-use Rattle.w16_loading.proofs.Common.{◌≡◌, ℕ, inl, inr, Some, refl, sym, ap, subst, false≢true, Heap, KeepsOthers, FetchLaw, FetchRefusedLaw, LoadingWorld}
+use Rattle.w16_loading.proofs.Common.{◌≡◌, ℕ, inl, inr, Some, refl, sym, ap, subst, false≢true, Heap, KeepsOthers, FetchLaw, FetchRefusedLaw}
 use Rattle.w16_loading.proofs.Fillings.{fetch_outcome, filled_others}
 
 -- the same heap keeps all objects

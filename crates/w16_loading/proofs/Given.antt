@@ -1,7 +1,7 @@
 -- Lists of modules with the handles and slots that a load gives them, and what of them gets bytes.
 use Rattle.w16_loading.proofs
 use proofs.Common as C
-use proofs.Common.{◌≡◌, ◌≢◌, ℕ, zero, suc, ◌+◌, ◌<◌, ◌≤◌, inl, inr, ◌⊎◌, Bool, true, false, cond, not, ◌||◌, List, [], ◌∷◌, ◌++◌, length, flat_map, zip, slice_get, Some, None, refl, sym, ap, ◌∙◌, subst, arith, position_or_len, false≢true, Member, EachPair, Each-at, is_named, Segment}
+use proofs.Common.{◌≡◌, ◌≢◌, ℕ, zero, suc, ◌+◌, ◌<◌, ◌≤◌, inl, inr, ◌⊎◌, Bool, true, false, cond, not, List, [], ◌∷◌, ◌++◌, length, flat_map, zip, slice_get, Some, None, refl, sym, ap, ◌∙◌, subst, arith, position_or_len, false≢true, Member, EachPair, Each-at, is_named, Segment}
 use proofs.Common.{SegmentData, Far, Module, Modules, Named, Loaded, Filling, Found, Given, given_from, segments_of, with_modules, fills_from, fills_of}
 use proofs.Undone.{in_first, in_second, parted}
 use proofs.Named.{apart_after}

@@ -1,7 +1,7 @@
 -- Who imports a module: whether it is idle says whether any entry does.
 use Rattle.w16_loading.proofs
 use proofs.Common as C
-use proofs.Common.{◌≡◌, ◌≢◌, ℕ, zero, suc, ◌+◌, ◌<◌, inl, Bool, true, not, ◌&&◌, ◌==◌, List, [], ◌∷◌, filter, IsTrue, Some, None, is_some, refl, sym, ap, ◌∙◌, subst, arith, false≢true, Member, Modules, Named, module_in, imports, importers, usage, usage_with, cond, false, find, inr}
+use proofs.Common.{◌≡◌, ◌≢◌, ℕ, zero, suc, ◌+◌, ◌<◌, inl, Bool, true, not, ◌&&◌, ◌==◌, List, [], ◌∷◌, filter, IsTrue, Some, None, is_some, refl, sym, ap, ◌∙◌, subst, arith, false≢true, Member, Modules, Named, module_in, imports, importers, usage_with, cond, false, find, inr}
 use proofs.Common.{is_named, name_of}
 use Rattle.std.specs.FinMap as finmap
 

@@ -3,8 +3,8 @@ use Rattle.w16_loading.proofs
 use proofs.Common as C
 use proofs.Common.{◌≡◌, ℕ, zero, suc, inl, inr, Bool, List, [], Option, Some, None, MatchResult, Result, Ok, Err, Heap, FetchFault, Store, LoadingWorld, Fills, Closure, Found, begun, dll, meant, Refused, Meant, Read, There, New, Answer, LoadingCommand, Reply, ◌⊎◌, true, false, named}
 use proofs.{Fillings.any_kept, Fillings.one_heap, Cases.IsLoadable, Cases.option_as, Fewest.fill_fewest, Named.named_heap, ResourceWorlds.made_world, Answered.fulfils_as, Answered.turned}
-use Rattle.w16_loading.specs.Answers.{Answers, ClosesFrom, Ending, FetchesFrom, FillsFewest, GivesFrom, GivesRead, LoadsFileFrom, LoadsFrom, ReadsFile, StepOver, follow, told, StepFrom}
-use Rattle.w16_loading.specs.Fewest.{RequestsFewest}
+use Rattle.w16_loading.specs.Answers.{Answers, ClosesFrom, Ending, FetchesFrom, GivesFrom, GivesRead, LoadsFileFrom, LoadsFrom, ReadsFile, StepOver, follow, told, StepFrom}
+use Rattle.w16_loading.specs.Fewest.{FillsFewest, RequestsFewest}
 
 result_as : (E : ℕ → Type 0) {X Y : Closure → Type 0} (r : Result Closure ℕ) → ((c : Closure) → X c → Y c) → MatchResult r X E → MatchResult r Y E
 result_as E (Ok c) go f = go c f

@@ -1,7 +1,7 @@
 -- A world without some objects: what stays of it.
 use Rattle.w16_loading.proofs
 use proofs.Common as C
-use proofs.Common.{◌≡◌, ℕ, inl, inr, Bool, true, false, cond, not, None, IfSome, is_some, sym, ap, ◌∙◌, subst, nat_cmp, FinMap, false≢true, cases_Bool, Kind, owned_in, LoadingWorld, Load, IsRun, slots_at, refl, arith, ◌+◌, ◌≤◌}
+use proofs.Common.{◌≡◌, ℕ, inl, inr, Bool, true, false, cond, not, None, IfSome, is_some, sym, ap, ◌∙◌, subst, nat_cmp, FinMap, false≢true, cases_Bool, Kind, owned_in, LoadingWorld, Load, IsRun, slots_at, refl, arith, ◌≤◌}
 use proofs.{Undone.retained, Released.released_heap}
 use Rattle.std.specs.FinMap as finmap
 

@@ -2,7 +2,7 @@
 -- own, which says no more than what was read for it. A store that is honest answers what its files say.
 use Rattle.w16_loading.specs
 use Rattle.std.specs.Prelude.{◌≡◌, ℕ, zero, suc, ◌<◌, ◌≤◌, ◌⊎◌, Bool, true, false, List, [], ◌∷◌, length, Option, Some, None, IsSomeAnd, MatchOption, Result, Ok, Err, MatchResult, if◌then◌else◌, ◌==◌}
-use Rattle.w16_model.specs.{Heap.Heap, Owned.owned_at, Owned.revival_options, Fewest.AllocatesFewest}
+use Rattle.w16_model.specs.{Heap.Heap, Owned.owned_at}
 use Rattle.w16_store.specs.Files.{file_of}
 use specs.declared.FetchFault.TheVariants.{Store, NoRoom}
 use specs.File.{Saying, Format, ModuleFile, IsModuleFile, Tables}
@@ -33,10 +33,6 @@ pub record Answers : Type 1 where
 -- how a request for an object's bytes ends
 abbrev pub Ending : Type 1
 Ending = Heap → ℕ → List ℕ → Bool → Heap → Type 0
-
--- It discards as few objects as it can; refused, there is no room whatever is discarded.
-abbrev pub FillsFewest : Ending
-FillsFewest old slot bytes answered new = Fills old slot bytes answered new × AllocatesFewest old slot (length bytes) revival_options answered new
 
 -- An object gets bytes of its size that were read for it; or there is no room for as many; or they can't be read, and nothing changes.
 abbrev pub GivesRead : Ending → (MayFail : FetchFault → Type 0) → (IsSized IsRead : List ℕ → Type 0) → Heap → ℕ → Option FetchFault → Heap → Type 0
@@ -145,14 +141,3 @@ told honest format files before after = record {
 -- THE step over a store that is honest where the premise holds.
 abbrev pub StepOver : (honest : Type 0) → Format → LoadingWorld → LoadingCommand → Reply → LoadingWorld → Type 0
 StepOver honest format old command reply new = StepFrom Fills (told honest format old.files old.failures new.failures) old command reply new
-
--- and one whose requests for bytes discard as few objects as they can
-abbrev pub FewestOver : (honest : Type 0) → Format → LoadingWorld → LoadingCommand → Reply → LoadingWorld → Type 0
-FewestOver honest format old command reply new = StepFrom FillsFewest (told honest format old.files old.failures new.failures) old command reply new
-
--- a fetch and a load over a store, while whose count of failures went from one number to another
-abbrev pub FetchesOver : (honest : Type 0) → Format → (before after : ℕ) → LoadingWorld → ℕ → Option FetchFault → LoadingWorld → Type 0
-FetchesOver honest format before after old slot fault new = FetchesFrom Fills (told honest format old.files before after) old slot fault new
-
-abbrev pub LoadsOver : (honest : Type 0) → Format → (before after : ℕ) → Bool → LoadingWorld → List ℕ → Answer → LoadingWorld → Type 0
-LoadsOver honest format before after is_load_module old file answer new = LoadsFrom Fills (told honest format old.files before after) is_load_module old file answer new

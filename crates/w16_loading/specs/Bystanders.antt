@@ -3,7 +3,7 @@ use Rattle.w16_loading.specs
 use Rattle.std.specs.Prelude.{◌≡◌, ◌≢◌, ℕ, ◌≤◌, ◌⊎◌, ◌==◌, Bool, true, false, if◌then◌else◌, is_some, IsSomeAnd, None, Some}
 use Rattle.w16_model.specs.Handles.{Handles, Part, selector_in, slot_of_handle, part_of_selector}
 use Rattle.w16_model.specs.Outcomes.Call.{Calls, ReAllocs}
-use Rattle.w16_model.specs.{declared.TheConstants.GMEM_MOVEABLE, CallLaws.IsAbout, CallLaws.IsKeptOrDiscarded, CallLaws.may_move_own, Calls.locks_at, Discards.is_member, Effects.pointer_in, Heap.object_at, Heap.is_pinned_object, Law.StandsStill, Outcomes.Call}
+use Rattle.w16_model.specs.{declared.TheConstants.GMEM_MOVEABLE, CallLaws.IsAbout, CallLaws.IsKeptOrDiscarded, CallLaws.may_move_own, Calls.locks_at, Discards.is_member, Far.pointer_in, Heap.object_at, Heap.is_pinned_object, Law.StandsStill, Outcomes.Call}
 use specs.Families.LoadingCommand.{OfHandles, OfResizes, OfFar, OfModules, OfResources}
 use specs.Families.ModuleCommand.{FreeLibrary, FreeModule}
 use specs.Families.ResourceCommand.{LockResource, FreeResource}

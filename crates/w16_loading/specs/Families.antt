@@ -2,12 +2,12 @@
 use Rattle.w16_loading.specs
 use Rattle.std.specs.Prelude.{◌≡◌, ℕ, ◌⊎◌, Bool, true, false, List, Option, Some, MatchOption, unwrap_or}
 use Rattle.w16_model.specs.Far.FarCommand.{Read, Write, Fill}
-use Rattle.w16_model.specs.{Handles.Handles, Handles.selector_in, Handles.offset_in, Handles.dword_of, Bytes.repeated, Calls.HandleCommand, Effects.pointer_in, Far.FarAnswer, Far.FarCommand, Far.IsFarCommand}
+use Rattle.w16_model.specs.{Handles.Handles, Handles.selector_in, Handles.offset_in, Handles.dword_of, Bytes.repeated, Calls.HandleCommand, Far.pointer_in, Far.FarAnswer, Far.FarCommand}
 use specs.Replies.{HandleReplies, ResizeReplies, Reply}
 use specs.File.Label.{Number, Text}
 use specs.Modules.{LoadingWorld, Named, IsFreeModule, handle_named, usage, address_at, address_named}
 use specs.Load.Answer.{Says, StoreFails}
-use specs.Fetch.{Fetching, Accesses, far_read, far_write, needs_fetch}
+use specs.Fetch.{Fetching, Accesses, far_read, far_write}
 use specs.Resource.{LoadsResource, LocksResource, find_resource, size_of_resource, free_resource}
 use specs.{Resizes.ResizeCommand, File.Far, File.Label, Modules.Named.BuiltIn, Load.Answer, Replies.Reply.Failed, Free.Frees}
 use Rattle.std.specs.FinMap as finmap
@@ -38,14 +38,6 @@ pub data LoadingCommand : Type 0 where
   OfModules : ModuleCommand → LoadingCommand
   OfResources : ResourceCommand → LoadingCommand
 
--- its numbers are in their range, where they have one
-abbrev pub IsLoadingCommand : LoadingCommand → Type 0
-IsLoadingCommand (OfHandles command) = Unit {0}
-IsLoadingCommand (OfResizes command) = Unit {0}
-IsLoadingCommand (OfFar command) = IsFarCommand command
-IsLoadingCommand (OfModules command) = Unit {0}
-IsLoadingCommand (OfResources command) = Unit {0}
-
 abbrev pub word : ℕ → Reply
 word n = (replies.Reply.Word n)
 
@@ -66,10 +58,6 @@ access_of (Fill pointer count byte) old = far_write (selector_in pointer) (offse
 
 abbrev pub FarStep : Fetching → LoadingWorld → FarCommand → Reply → LoadingWorld → Type 0
 FarStep fetches old command reply new = Accesses fetches (access_of command) old (selector_in (pointer_in command)) reply new
-
--- whether it meets a module's object without bytes, and fetches it
-abbrev pub far_reads_file : LoadingWorld → FarCommand → Bool
-far_reads_file old command = needs_fetch (access_of command old).0 old (selector_in (pointer_in command))
 
 -- Builtin: the handle of a built-in, the same for the same name; 0 where a loaded module has the name or no handle is free
 abbrev pub AddsBuiltIn : LoadingWorld → List ℕ → ℕ → LoadingWorld → Type 0

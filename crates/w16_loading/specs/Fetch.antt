@@ -5,7 +5,6 @@ use Rattle.w16_loading.specs.Modules.{LoadingWorld, Module, IsSegmentOf, IsResou
 use Rattle.w16_loading.specs.{declared.FetchFault.FetchFault, Replies.Reply, Replies.Reply.Failed, File.Format, File.ModuleFile, File.SegmentData, File.numbered}
 use Rattle.w16_store.specs.Files.{file_of}
 use Rattle.w16_model.specs.declared.FarFault.TheVariants as far
-use Rattle.w16_model.specs.Owned as owned
 use Rattle.w16_model.specs.Far as far_access
 use Rattle.w16_loading.specs.Replies as replies
 
@@ -47,9 +46,6 @@ abbrev pub Fetching : Type 1
 Fetching = LoadingWorld → ℕ → Option FetchFault → LoadingWorld → Type 0
 
 -- Far access.
-
-abbrev pub is_code : LoadingWorld → ℕ → Bool
-is_code world slot = owned.is_code world.handles slot
 
 abbrev pub with_handles : {A : Type 0} → LoadingWorld → A × Handles → A × LoadingWorld
 with_handles world outcome = (outcome.0, record world { handles = outcome.1 })

@@ -1,7 +1,7 @@
 -- What a module file says, apart from how it says it: what the formats of files and relocations give to a load.
-use Rattle.std.specs.Prelude.{◌≡◌, ℕ, ◌-◌, ◌<◌, ◌≤◌, Bool, false, ◌==◌, if◌then◌else◌, List, [], length, find, All, MatchResult, Option, None, IfSome, IsSomeAnd, Result, IfOk, unwrap_or, option_map, slice_get}
+use Rattle.std.specs.Prelude.{◌≡◌, ℕ, ◌-◌, ◌<◌, ◌≤◌, Bool, false, ◌==◌, if◌then◌else◌, List, [], length, find, All, Option, None, Result, unwrap_or, option_map, slice_get}
 use Rattle.std.specs.List.{AllZip}
-use Rattle.w16_model.specs.{declared.Kind.Kind, declared.TheConstants.GRAIN, Heap.IsMultiple, Calls.rounded_size}
+use Rattle.w16_model.specs.{declared.Kind.Kind, declared.TheConstants.GRAIN, Heap.IsMultiple}
 use Rattle.w16_loading.specs.declared.TheConstants.{LARGEST_OWNED}
 use Rattle.w16_store.specs.Names.{is_named}
 use base.Stored.{Gv}
@@ -109,16 +109,3 @@ pub record IsSegmentData (segment : Segment) (s : SegmentData) : Type 0 where
 
 pub record IsModuleFile (read : ModuleFile) : Type 0 where
   pub segments : AllZip IsSegmentData read.tables.segments read.segments
-
--- and the numbers of files that aren't
-abbrev pub AreModuleFiles : Saying → Type 0
-AreModuleFiles says = (file : List ℕ) → MatchResult (says file) IsModuleFile (λ answer. (11 ≤ answer) × (answer ≤ 14))
-
--- and a fetch in each resource: bytes, as many as its object has
-abbrev pub IsContent : Resource → List ℕ → Type 0
-IsContent r bytes = (length bytes ≡ rounded_size r.length_in) × All (λ b. b < 256) bytes
-
-pub record IsFormat (format : Format) : Type 0 where
-  pub files : AreModuleFiles format.says
-  pub contents : (file : List ℕ) (number : ℕ)
-      → IfOk (format.says file) (λ read. IfSome (numbered read.tables.resources number) (λ r. IsSomeAnd (format.contents file number) (IsContent r)))

@@ -1,24 +1,79 @@
--- What holds of every world with modules, and the laws that show the definitions right.
+-- What holds of all files and of every world with modules, and the laws that show the definitions right.
 use Rattle.w16_loading.specs
-use Rattle.std.specs.Prelude.{◌≡◌, ◌≢◌, ℕ, ◌+◌, ◌-◌, ◌<◌, ◌≤◌, ◌⊎◌, Bool, true, false, List, length, All, if◌then◌else◌, Option, Some, None, is_some, IfSome, IsSomeAnd, Result, fold, ◌↔◌, []}
+use Rattle.std.specs.Prelude.{◌≡◌, ◌≢◌, ℕ, ◌+◌, ◌-◌, ◌<◌, ◌≤◌, ◌⊎◌, Bool, true, false, List, length, All, if◌then◌else◌, Option, Some, None, is_some, IfSome, IsSomeAnd, Result, fold, ◌↔◌, [], MatchResult, IfOk}
 use Rattle.std.specs.List.{AllZip, AllByRecursion}
-use Rattle.w16_model.specs.Handles.{Handles, AreHandles, empty_handles, slot_of_selector, selector_in, offset_in, IsFreeSlot}
-use Rattle.w16_model.specs.{Bytes.part, Far.FarCommand.Read, Owned.owned_at, Owned.revival_options, Heap.Heap, Heap.Object, Heap.IsHeap, Heap.object_at, Heap.bytes_at, declared.TheConstants.MOST_SLOTS, CallLaws.IsKeptOrDiscarded, Request.Allocates, Calls.HandleCommand, Calls.rounded_size}
+use Rattle.w16_model.specs.Handles.{Handles, slot_of_selector, selector_in, offset_in, IsFreeSlot}
+use Rattle.w16_model.specs.Heap.{Heap, Object, IsHeap, object_at, bytes_at}
+use Rattle.w16_model.specs.{Bytes.part, Far.FarCommand.Read, Owned.owned_at, Owned.revival_options, declared.TheConstants.MOST_SLOTS, CallLaws.IsKeptOrDiscarded, Request.Allocates, Law.AreHandles, Law.empty_handles}
+use Rattle.w16_model.specs.{Calls.HandleCommand, Calls.rounded_size, Law.IsFarCommand, Law.FarStep, Far.pointer_in, Far.FarCommand}
 use Rattle.w16_model.specs.{Far.after_write, declared.Kind.Kind, Law.KeepsOthers, Discards.is_member}
 use specs.declared.TheConstants.{FIRST_MODULE, LARGEST_OWNED, MOST_MODULES, MOST_USES}
-use specs.File.{Saying, Format, ModuleFile, Segment, SegmentData, Far, Target}
+use specs.File.{Saying, Format, ModuleFile, Segment, SegmentData, Far, Target, IsModuleFile, Resource, numbered}
 use specs.Modules.{with_heap, LoadingWorld, Lookup, Module, Load, Named, value_of, IsSegmentOf, IsResourceOf, name_of, module_at, usage, importers}
 use specs.Fill.{Fills, Filling, Failure, InTurn}
-use specs.Closure.{Around, Closure, Closes, Found, around}
+use specs.Closure.{Around, Closure, Found, around}
 use specs.Naming.{Choice, IsChoice, AreSlots, free_slots, segments_in, given, with_modules, unbound, bound, named, with_segment}
 use specs.Load.Answer.{Says, StoreFails}
-use specs.Answers.{ClosesFrom, FetchesOver, GivesFrom, LoadsOver, StepOver, told}
-use specs.Families.{LoadingCommand, IsLoadingCommand, HandleStep}
-use specs.Families.LoadingCommand.{OfFar}
-use specs.{Replies.Reply.Bytes, declared.FetchFault.FetchFault, Modules.Named.Loaded, Release.without_objects, Load.Answer, Load.undone, Replies.Reply, Fetch.read_of, Fetch.segment_bytes, Fetch.is_code, Free.Go, Free.Frees, Resource.is_too_long, Resource.resource_at}
+use specs.Answers.{ClosesFrom, GivesFrom, StepOver, told, FetchesFrom, LoadsFrom}
+use specs.Families.{LoadingCommand, HandleStep, access_of}
+use specs.Families.LoadingCommand.{OfFar, OfHandles, OfModules, OfResizes, OfResources}
+use specs.Replies.Reply.{Bytes, Done, Fault}
+use specs.Fetch.{read_of, segment_bytes, needs_fetch}
+use specs.{declared.FetchFault.FetchFault, Modules.Named.Loaded, Release.without_objects, Load.Answer, Load.undone, Replies.Reply, Free.Go, Free.Frees, Resource.is_too_long, Resource.resource_at, Closing.Closes}
 use Rattle.w16_store.specs.Names.{is_named}
 use Rattle.std.specs.FinMap as finmap
 use Rattle.w16_loading.specs.declared.FetchFault.TheVariants as faults
+use Rattle.w16_model.specs.Owned as owned
+use Rattle.w16_model.specs.Far as far
+
+-- Files, and steps in part.
+
+-- what a load relies on in all files: those that are accepted, and the numbers of those that aren't
+abbrev pub AreModuleFiles : Saying → Type 0
+AreModuleFiles says = (file : List ℕ) → MatchResult (says file) IsModuleFile (λ answer. (11 ≤ answer) × (answer ≤ 14))
+
+-- and a fetch in each resource: bytes, as many as its object has
+abbrev pub IsContent : Resource → List ℕ → Type 0
+IsContent r bytes = (length bytes ≡ rounded_size r.length_in) × All (λ b. b < 256) bytes
+
+pub record IsFormat (format : Format) : Type 0 where
+  pub files : AreModuleFiles format.says
+  pub contents : (file : List ℕ) (number : ℕ)
+      → IfOk (format.says file) (λ read. IfSome (numbered read.tables.resources number) (λ r. IsSomeAnd (format.contents file number) (IsContent r)))
+
+-- a command's numbers are in their range, where they have one
+abbrev pub IsLoadingCommand : LoadingCommand → Type 0
+IsLoadingCommand (OfHandles command) = Unit {0}
+IsLoadingCommand (OfResizes command) = Unit {0}
+IsLoadingCommand (OfFar command) = IsFarCommand command
+IsLoadingCommand (OfModules command) = Unit {0}
+IsLoadingCommand (OfResources command) = Unit {0}
+
+-- whether a far access meets a module's object without bytes, and fetches it
+abbrev pub far_reads_file : LoadingWorld → FarCommand → Bool
+far_reads_file old command = needs_fetch (access_of command old).0 old (selector_in (pointer_in command))
+
+-- whether a slot's object is code
+abbrev pub is_code : LoadingWorld → ℕ → Bool
+is_code world slot = owned.is_code world.handles slot
+
+-- the answer of a far access that a reply prints, if it prints one
+abbrev pub far_answer_in : Reply → Option far.FarAnswer
+far_answer_in (Bytes bytes) = Some (far.FarAnswer.Bytes bytes)
+far_answer_in Done = Some far.FarAnswer.Done
+far_answer_in (Fault fault) = Some (far.FarAnswer.Fault fault)
+far_answer_in other = None
+
+-- a far access that fetches nothing, its answer being the one that a reply prints
+abbrev pub FarReplies : Handles → FarCommand → Reply → Handles → Type 0
+FarReplies old command reply new = IsSomeAnd (far_answer_in reply) (λ answer. FarStep old command answer new)
+
+-- a fetch and a load over a store, while whose count of failures went from one number to another
+abbrev pub FetchesOver : (honest : Type 0) → Format → (before after : ℕ) → LoadingWorld → ℕ → Option FetchFault → LoadingWorld → Type 0
+FetchesOver honest format before after old slot fault new = FetchesFrom Fills (told honest format old.files before after) old slot fault new
+
+abbrev pub LoadsOver : (honest : Type 0) → Format → (before after : ℕ) → Bool → LoadingWorld → List ℕ → Answer → LoadingWorld → Type 0
+LoadsOver honest format before after is_load_module old file answer new = LoadsFrom Fills (told honest format old.files before after) is_load_module old file answer new
 
 -- the figures of the profile, each as it is told to users
 pub record AreFigures : Type 0 where

@@ -1,9 +1,8 @@
 -- What is printed of an answer, whichever family of commands gave it.
 use Rattle.std.specs.Prelude.{ℕ, List, IsSomeAnd, Option, Some, None}
-use Rattle.w16_model.specs.{declared.FarFault.FarFault, Calls.HandleCommand, Calls.HandleStep, Far.FarCommand, Far.FarStep, Handles.Handles}
+use Rattle.w16_model.specs.{declared.FarFault.FarFault, Calls.HandleCommand, Calls.HandleStep, Handles.Handles}
 use Rattle.w16_loading.specs.{declared.FetchFault.FetchFault, Resizes.ResizeCommand, Resizes.ResizeStep}
 use Rattle.w16_model.specs.Calls as calls
-use Rattle.w16_model.specs.Far as far
 
 pub data Reply : Type 0 where
   Word : (value : ℕ) → Reply
@@ -23,19 +22,9 @@ answer_in (Dword n) = Some (calls.Answer.Dword n)
 answer_in (Walked count) = Some (calls.Answer.Walked count)
 answer_in other = None
 
--- and the answer of a far access
-abbrev pub far_answer_in : Reply → Option far.FarAnswer
-far_answer_in (Bytes bytes) = Some (far.FarAnswer.Bytes bytes)
-far_answer_in Done = Some far.FarAnswer.Done
-far_answer_in (Fault fault) = Some (far.FarAnswer.Fault fault)
-far_answer_in other = None
-
 -- a step of a family, its answer being the one that a reply prints
 abbrev pub HandleReplies : Handles → HandleCommand → Reply → Handles → Type 0
 HandleReplies old command reply new = IsSomeAnd (answer_in reply) (λ answer. HandleStep old command answer new)
 
 abbrev pub ResizeReplies : Handles → ResizeCommand → Reply → Handles → Type 0
 ResizeReplies old command reply new = IsSomeAnd (answer_in reply) (λ answer. ResizeStep old command answer new)
-
-abbrev pub FarReplies : Handles → FarCommand → Reply → Handles → Type 0
-FarReplies old command reply new = IsSomeAnd (far_answer_in reply) (λ answer. FarStep old command answer new)

@@ -4,7 +4,7 @@ use proofs.Common as C
 use proofs.Common.{◌≡◌, ℕ, ◌<◌, ◌⊎◌, inl, inr, IsSomeAnd, List, Option, Some, None, refl, sym, ap, ◌∙◌, subst, nat_cmp, FinMap, after_write, Handles, Heap, Object, bytes_at, Table, heap_in, Global, Lends, World, LocalHeap, Acts, Acted, ActedIn, Done, Idle, IsLent, IsIn, with_parts, Kind}
 use proofs.Common.{[], alone, arith}
 use Rattle.w16_machine.proofs.{Common.bytes_in, LocalFacts.segment_after}
-use Rattle.w16_machine.specs.World.{empty_world}
+use Rattle.w16_machine.specs.Law.{empty_world}
 use Rattle.w16_local.specs.Growth.{InSlot, IsLentOrGrown, WritesFor, WritesOnce, WritesServed, in_slot}
 use Rattle.w16_model.proofs.Maps.{put_same}
 use Rattle.std.specs.FinMap as finmap

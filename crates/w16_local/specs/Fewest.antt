@@ -2,7 +2,7 @@
 use Rattle.std.specs.Prelude.{◌≡◌, ℕ, ◌<◌, false, Some}
 use Rattle.std.specs.{Ordering.nat_cmp, FinMap.FinMap}
 use Rattle.w16_model.specs.{Calls.has_flag, Fewest.CompactsFewest, Handles.Handles, Table.Table}
-use Rattle.w16_machine.specs.{declared.local.TheConstants.LMEM_MODIFY, World.World, Local.LocalHeap, Local.LocalObject, Local.AreLocalHeaps, Local.current_heap, Local.heap_of, Local.object_named, LocalFewest.AllocFewest, LocalFewest.Left, LocalFewest.ReallocFewest}
+use Rattle.w16_machine.specs.{declared.local.TheConstants.LMEM_MODIFY, World.World, Local.LocalHeap, Local.LocalObject, Law.AreLocalHeaps, Local.current_heap, Local.heap_of, Local.object_named, LocalFewest.AllocFewest, LocalFewest.Left, LocalFewest.ReallocFewest}
 use Rattle.w16_local.specs.Parts.{with_parts}
 
 -- what is so of the worlds before and after a call, where the tables before it are local heaps in their segments

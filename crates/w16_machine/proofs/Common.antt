@@ -23,14 +23,14 @@ pub use Rattle.w16_loading.proofs.KeptWorlds.{IsOwned, world_stays}
 pub use Rattle.w16_loading.proofs.WorldLaw.{keeps_worlds_law}
 pub use Rattle.w16_loading.specs.Families.{ResizesStep}
 pub use Rattle.w16_loading.specs.Modules.{with_handles}
-pub use Rattle.w16_loading.specs.Replies.{FarReplies, far_answer_in}
+pub use Rattle.w16_loading.specs.Law.{FarReplies, far_answer_in}
 pub use Rattle.w16_loading.specs.Replies.Reply.{Done}
 pub use Rattle.w16_loading.specs.declared.FetchFault.{FetchFault}
 pub use Rattle.w16_loading.specs.declared.FetchFault.TheVariants.{Store}
 pub use Rattle.w16_machine.specs.Bystanders.{AllSpare, IsLocalAbout, IsLocalSpared, RunSparesLaw, StepSparesLaw}
-pub use Rattle.w16_machine.specs.Fewest.{AreFewest, IsFewest}
-pub use Rattle.w16_machine.specs.Law.{EmptyLaw, FewestLaw, FilesLaw, IsWorld, IsWorldOfFiles, RunFilesLaw, RunWorldLaw, WorldLaw}
-pub use Rattle.w16_machine.specs.Local.{Acts, AreLocalHeaps, AreNamed, Becomes, Beginning, IsLocalIn, IsLocalTable, IsLowestFree, LocalHeap, LocalObject, Stays, beginning, beginning_in, current_heap, has_range, heap_of, id_at}
+pub use Rattle.w16_machine.specs.Fewest.{AreFewest, FewestLaw, IsFewest}
+pub use Rattle.w16_machine.specs.Law.{AreLocalHeaps, AreNamed, EmptyLaw, FilesLaw, IsCommand, IsLocalIn, IsWorld, IsWorldOfFiles, OnHandles, RunFilesLaw, RunWorldLaw, WorldLaw, empty_world}
+pub use Rattle.w16_machine.specs.Local.{Acts, Becomes, Beginning, IsLocalTable, IsLowestFree, LocalHeap, LocalObject, Stays, beginning, beginning_in, current_heap, has_range, heap_of, id_at}
 pub use Rattle.w16_machine.specs.Local.{id_named, is_name, is_range, left_in, local_in, local_of, name_at, name_of, new_table, object_named, range_in, rounded_down, rounded_up, segment_bytes, selector_or_ds, with_local, with_table}
 pub use Rattle.w16_machine.specs.LocalCalls.{AllocatesIn, AllocatesObject, Answers, CompactsIn, DiscardsObject, EntersObject, GivesUp, HasNoEntry, HasNoRoom, IsEmptyFixed, IsRefusedAlloc, Leaves, LocalCommand, LocalInits, LocalStep, MakesLonger}
 pub use Rattle.w16_machine.specs.LocalCalls.{MakesObject, ModifiesObject, OnNamed, ResizesObject, SizesObject, is_absent_asked, local_flags_of, local_kind, local_options, lock_refused, locks_left, moveable_or_discardable, near_pointer}
@@ -42,9 +42,9 @@ pub use Rattle.w16_machine.specs.LocalLaw.{GrowthLaw, IsHeapLeft, IsLeftByGrowth
 pub use Rattle.w16_machine.specs.LocalLaw.{GoesLaw, GoneLaw, HasSameObjects, IsBegun, IsHeapKept, IsLocalKept, IsNamedBy, IsObjectKept, IsRewritten, KeepsRest, MayBegin, NamedLaw, NamesLaw}
 pub use Rattle.w16_machine.specs.LocalLaw.{NeverBackLaw, NewHeapLaw, OrderLaw, OthersLaw, OutcomeLaw, PinnedLaw, PlacesLaw, QueriesLaw, asks_for_room, but_bytes, may_move_named, named_by, only_tells}
 pub use Rattle.w16_machine.specs.LocalStays.{HasSamePlaces, HeapsLaw, LocalSamePlacesLaw, SamePlacesLaw, call_may_take, kind_at, modules_may_take, resources_may_take, size_at}
-pub use Rattle.w16_machine.specs.Machine.{Command, Event, IsCommand, OnHandles, Run, Step, after_loading}
+pub use Rattle.w16_machine.specs.Machine.{Command, Event, Run, Step, after_loading}
 pub use Rattle.w16_machine.specs.Machine.Command.{OfLoading, OfLocals}
-pub use Rattle.w16_machine.specs.World.{World, empty_world}
+pub use Rattle.w16_machine.specs.World.{World}
 pub use Rattle.w16_machine.specs.declared.local.TheConstants.{LAST_LOCAL_END, LMEM_DISCARDABLE, LMEM_MODIFY, LMEM_MOVEABLE, LMEM_NOCOMPACT, LOCAL_ENTRIES, LOCAL_GRAIN}
 pub use Rattle.w16_model.proofs.Absence.{discard_absent, discard_is}
 pub use Rattle.w16_model.proofs.CallOrders.{allocated, compacted, resized, same, stays, touched_rest}
@@ -67,9 +67,8 @@ pub use Rattle.w16_model.proofs.Sound.{sound_law}
 pub use Rattle.w16_model.proofs.Tables.{length_range, member_with, object_is}
 pub use Rattle.w16_model.specs.Discards.{Snapshot}
 pub use Rattle.w16_model.specs.Ends.{ending, is_answered, is_resized}
-pub use Rattle.w16_model.specs.Far.{FarStep}
 pub use Rattle.w16_model.specs.Fewest.{CompactsFewest}
-pub use Rattle.w16_model.specs.Law.{KeepsAddresses}
+pub use Rattle.w16_model.specs.Law.{FarStep, KeepsAddresses}
 pub use Rattle.w16_model.specs.Owned.{is_code}
 pub use Rattle.w16_model.specs.Reallocation.{IsResized}
 pub use Rattle.w16_model.specs.Table.{IsSameOutside}

@@ -1,7 +1,7 @@
 -- Where a local heap may begin, and that it has no object then.
 use Rattle.w16_machine.proofs
 use proofs.Common as C
-use proofs.Common.{◌≡◌, ℕ, zero, suc, ◌+◌, ◌*◌, ◌/◌, ◌<◌, ◌≤◌, Bool, true, false, cond, ◌&&◌, nat_le, min, IsTrue, IfSome, IsSomeAnd, List, [], length, Option, Some, None, option_map, is_some, refl, sym, ap, ◌∙◌, subst, arith, Entry, Span, Block, Heap, IsMultiple, is_code}
+use proofs.Common.{◌≡◌, ℕ, zero, suc, ◌+◌, ◌*◌, ◌/◌, ◌<◌, ◌≤◌, Bool, true, false, cond, ◌&&◌, nat_le, min, IfSome, IsSomeAnd, List, [], length, Option, Some, None, option_map, is_some, refl, sym, ap, ◌∙◌, subst, arith, Entry, Span, IsMultiple, is_code}
 use proofs.Common.{slot_of_selector, Table, by_id, LOCAL_ENTRIES, World, Beginning, segment_bytes, is_range, range_in, beginning_in, new_table, selector_or_ds, rounded_up, rounded_down, MayBegin}
 use Rattle.std.specs.FinMap as finmap
 

@@ -1,7 +1,7 @@
 -- Local calls for room discard as few as they can, as each heap's requests do.
 use Rattle.w16_machine.proofs
 use proofs.Common as C
-use proofs.Common.{◌≡◌, ◌≢◌, ℕ, ◌+◌, ◌*◌, ◌<◌, ◌≤◌, ◌⊎◌, inl, inr, Bool, true, false, cond, ◌&&◌, ◌==◌, MatchBool, MatchOption, IsSomeAnd, Option, Some, None, refl, sym, ap, ◌∙◌, subst, arith, ne_eqb, false≢true, Block, Heap, Object, object_at, MakesRoom, most_room, has_flag}
+use proofs.Common.{◌≡◌, ◌≢◌, ℕ, ◌+◌, ◌*◌, ◌<◌, ◌≤◌, ◌⊎◌, inl, inr, Bool, true, false, cond, ◌&&◌, ◌==◌, MatchBool, MatchOption, IsSomeAnd, Option, Some, None, refl, sym, ap, ◌∙◌, subst, arith, ne_eqb, false≢true, Heap, Object, object_at, MakesRoom, most_room, has_flag}
 use proofs.Common.{CompactsFewest, LacksRoom, ReallocatesFewest, fewest_law, World, LocalHeap, AreLocalHeaps, Becomes, Acts, Stays, heap_of, current_heap, name_at, rounded_up, EntersObject, AllocatesObject, ResizesObject, SizesObject, is_absent_asked, local_options, Left, ending, Grows}
 use proofs.Common.{longer, AllocatedFewest, ReallocatedFewest, LacksBytes}
 use proofs.LocalFacts.{IsThere, current_there, named_there, there_local, heap_here, acted_there, became_there}

@@ -1,7 +1,7 @@
 -- Local heaps that go where a step leaves their segments without their ranges.
 use Rattle.w16_machine.proofs
 use proofs.Common as C
-use proofs.Common.{◌≡◌, ℕ, ◌≤◌, Bool, true, false, cond, nat_le, List, length, Option, Some, None, refl, sym, ap, ◌∙◌, subst, Heap, bytes_at, Table, World, AreLocalHeaps}
+use proofs.Common.{◌≡◌, ℕ, Bool, true, false, cond, nat_le, List, length, Option, Some, None, refl, sym, ap, ◌∙◌, subst, Heap, bytes_at, Table, World, AreLocalHeaps}
 use proofs.LocalNamed.{named_in}
 use Rattle.std.specs.FinMap as finmap
 

@@ -1,5 +1,5 @@
 -- A heap isn't both lengthened and kept short.
-use Rattle.w16_machine.proofs.Common.{◌≡◌, ◌≢◌, ℕ, ◌<◌, ◌≤◌, ◌==◌, inl, inr, Bool, true, false, nat_lt, MatchBool, MatchOption, IsSomeAnd, Option, Some, None, sym, subst, arith, ne_eqb, Object, Handles, object_at, has_flag, Lengthens, OneGrowthLaw, growth_flags}
+use Rattle.w16_machine.proofs.Common.{◌≡◌, ◌≢◌, ℕ, ◌<◌, ◌==◌, inl, inr, Bool, true, false, nat_lt, MatchBool, MatchOption, IsSomeAnd, Option, Some, None, sym, subst, arith, ne_eqb, Object, Handles, object_at, has_flag, Lengthens, OneGrowthLaw, growth_flags}
 use Rattle.w16_machine.proofs.LocalGrown.{plain_flags}
 use Rattle.w16_model.specs.declared.Kind.TheVariants.{Fixed, Moveable, Discardable}
 use Rattle.w16_model.specs.Resizes.{Anew, AnswersHandle, Empties, GetsRun, GlobalReAllocs, IsNull, LacksRun, ReAllocsOwn, Resizes, ResizesObject, kind_modified, modified, realloc_options}

@@ -5,8 +5,8 @@ use proofs.Common.{◌≡◌, ℕ, false, inl, inr, List, length, Option, Some, 
 use proofs.LocalFrame.{frame_law}
 use proofs.LocalFar.{read_same, write_same, tables_stay}
 use proofs.Stepped.{call_replies, fetching, loading, once}
-use Rattle.w16_loading.specs.{Families.Loading, Families.access_of, Families.far_reads_file, Fetch.Fetching}
-use Rattle.w16_model.specs.Effects.{pointer_in}
+use Rattle.w16_loading.specs.{Families.Loading, Families.access_of, Law.far_reads_file, Fetch.Fetching}
+use Rattle.w16_model.specs.Far.{pointer_in}
 use Rattle.w16_loading.proofs.Cases.{by_option}
 use Rattle.std.specs.FinMap as finmap
 use Rattle.w16_loading.specs.Families as families

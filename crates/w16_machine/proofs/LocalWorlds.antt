@@ -1,7 +1,7 @@
 -- Each step of each family keeps what holds of local heaps.
 use Rattle.w16_machine.proofs
 use proofs.Common.{◌≡◌, ◌≢◌, ℕ, ◌<◌, inl, inr, IsSomeAnd, List, length, All, Some, option_map, refl, sym, ap, subst, arith, cases_eq, Heap, Object, object_at, after_write, AreHandles, Table, heap_in, other_handles, same_updated, written_sized, bytes_in, inserted_here, inserted_other}
-use proofs.Common.{written_heap, put_part, World, Reply, Word, Done, LocalHeap, AreLocalHeaps, IsLocalIn, AreNamed, Becomes, Acts, segment_bytes, heap_of, new_table, with_table, with_local, LocalCommand, LocalStep, DS, Lengthens, longer, with_longer, local_options}
+use proofs.Common.{written_heap, put_part, World, Reply, Word, Done, LocalHeap, AreLocalHeaps, IsLocalIn, AreNamed, Becomes, Acts, segment_bytes, heap_of, new_table, with_table, with_local, LocalCommand, LocalStep, DS, longer, with_longer, local_options}
 use proofs.LocalFacts.{IsThere, current_there, local_here, heap_here, object_of, segment_after, segment_other}
 use proofs.LocalBegins.{begin_law, new_local}
 use proofs.LocalNamed.{made_named, roomed_named, stepped_named}

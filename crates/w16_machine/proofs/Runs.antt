@@ -3,7 +3,7 @@ use Rattle.std.proofs.Common.{All, List, [], ◌∷◌, ◌++◌, subst, sym}
 use Rattle.std.specs.List.{AllByRecursion as Each}
 use Rattle.w16_machine.proofs.Common.{Each-from_All}
 use Rattle.w16_machine.specs.World.{World}
-use Rattle.w16_machine.specs.Machine.{EachStep, Event, IsCommand, Run, Steps}
+use Rattle.w16_machine.specs.{Law.EachStep, Law.IsCommand, Machine.Event, Machine.Run, Machine.Steps}
 
 -- one run goes on with another
 pub run_append : (steps : Steps) (old mid new : World) (events more : List Event) → Run steps old events mid → Run steps mid more new → Run steps old (events ++ more) new

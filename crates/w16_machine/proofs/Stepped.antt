@@ -2,10 +2,10 @@
 use Rattle.w16_machine.proofs.Common as C
 use Rattle.w16_machine.proofs.Common.{false≢true, inl, inr, ◌≡◌, ℕ, false, refl, sym, ap, ◌∙◌, subst, arith, FarAnswer, FarCommand, Read, Write, Fill, Handles, LoadingCommand, OfFar, gives, reply_of_far, Format, LoadingWorld, with_handles, Reply, Done}
 use Rattle.w16_loading.proofs.Cases.{by_bool}
-use Rattle.w16_loading.specs.Families.{HandleStep, FarStep, Loading, access_of, far_reads_file}
-use Rattle.w16_loading.specs.{Fetch.Fetching, Fill.Fills, Answers.FetchesFrom, Answers.LoadsFrom, Answers.StepOver, Answers.told, Replies.Reply.Bytes, Replies.Reply.Fault}
-use Rattle.w16_model.specs.Effects.{pointer_in}
-use Rattle.w16_model.specs.Far as far
+use Rattle.w16_loading.specs.Families.{HandleStep, FarStep, Loading, access_of}
+use Rattle.w16_loading.specs.{Fetch.Fetching, Fill.Fills, Answers.FetchesFrom, Answers.LoadsFrom, Answers.StepOver, Answers.told, Replies.Reply.Bytes, Replies.Reply.Fault, Law.far_reads_file}
+use Rattle.w16_model.specs.Far.{pointer_in}
+use Rattle.w16_model.specs.Law as far
 
 -- the fetches and loads of a step over a store
 abbrev pub fetching : Type 0 → Format → LoadingWorld → LoadingWorld → Fetching

@@ -1,7 +1,7 @@
 -- Each step, and so each run, keeps what holds of every world of the machine.
 use Rattle.w16_machine.proofs
 use proofs.Common as C
-use proofs.Common.{◌≡◌, false, sym, subst, Table, World, Step, OfLoading}
+use proofs.Common.{◌≡◌, false, sym, subst, World, Step, OfLoading}
 use proofs.LocalModules.{local_files_kept, local_world_kept}
 use proofs.{Discards.step_fewest, Runs.run_each, Loaded.loading_world_kept}
 use Rattle.w16_loading.proofs.Begun.{empty_law as empty_loading_law}

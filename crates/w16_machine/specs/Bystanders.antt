@@ -4,9 +4,9 @@ use Rattle.std.specs.Prelude.{◌≡◌, ℕ, ◌⊎◌, Bool, true, false, is_s
 use Rattle.w16_model.specs.{declared.Kind.TheVariants.Discardable, CallLaws.IsKeptOrDiscarded, Heap.Object, Heap.object_at, Heap.is_pinned_object, Law.StandsStill}
 use Rattle.w16_loading.specs.{Bystanders.IsStepAbout, Bystanders.IsReleased, Bystanders.step_may_move_own, File.Format, Replies.Reply}
 use specs.LocalLaw.{IsLeftByGrowth, IsNamedBy, IsObjectKept, asks_for_room, but_bytes, may_grow, may_move_named}
-use specs.Machine.{Command, EachStep, IsCommand, Event, Step, Run}
+use specs.Machine.{Command, Event, Step, Run}
 use specs.Machine.Command.{OfLoading, OfLocals}
-use specs.{World.World, Law.IsWorld, Local.LocalHeap, Local.heap_of, Local.local_in, Local.current_heap, LocalCalls.LocalCommand.DS}
+use specs.{World.World, Law.IsWorld, Local.LocalHeap, Local.heap_of, Local.local_in, Local.current_heap, LocalCalls.LocalCommand.DS, Law.EachStep, Law.IsCommand}
 
 -- Objects of the global heap.
 

@@ -1,16 +1,16 @@
 -- What whole runs promise of discards, read at each step: a call for room discards as few objects as it can, of the global heap or of a local
 -- one, and is refused for room only where none could be made.
 use Rattle.w16_machine.specs
-use Rattle.std.specs.Prelude.{◌≡◌, ℕ, ◌<◌, List, false, Some}
+use Rattle.std.specs.Prelude.{◌≡◌, ℕ, ◌<◌, List, false, Some, All}
 use Rattle.w16_model.specs.{Calls.has_flag, Calls.HandleCommand.GlobalAlloc, Calls.HandleCommand.GlobalCompact, Fewest.CompactsFewest}
-use Rattle.w16_loading.specs.{Families.LoadingCommand, Families.LoadingCommand.OfHandles, Families.LoadingCommand.OfResizes, Fewest.RequestsFewest, Replies.Reply.Word, Replies.Reply.Dword, Resizes.ResizeCommand.GlobalReAlloc}
+use Rattle.w16_loading.specs.{Families.LoadingCommand, Families.LoadingCommand.OfHandles, Families.LoadingCommand.OfResizes, Fewest.RequestsFewest, Replies.Reply.Word, Replies.Reply.Dword, Resizes.ResizeCommand.GlobalReAlloc, File.Format}
 use specs.Local.{LocalHeap, LocalObject, heap_of, current_heap, object_named}
 use specs.LocalCalls.LocalCommand.{LocalAlloc, LocalReAlloc, LocalCompact}
 use specs.LocalFewest.{Left, AllocFewest, ReallocFewest}
 use specs.Machine.Command.{OfLoading, OfLocals}
-use specs.{declared.local.TheConstants.LMEM_MODIFY, World.World, Machine.EachStep, Machine.Event}
+use specs.{declared.local.TheConstants.LMEM_MODIFY, World.World, Law.EachStep, Machine.Event, Law.IsCommand, Machine.Step, Machine.Run, Law.IsWorld}
 use Rattle.w16_model.specs.Fewest as global
-use Rattle.w16_model.specs.Resizes as resizes
+use Rattle.w16_model.specs.CallLaws as resizes
 
 -- The calls on the global heap.
 abbrev pub GlobalAllocFewest : World → Event → Type 0
@@ -54,3 +54,7 @@ pub record IsFewest (old : World) (event : Event) : Type 0 where
 -- each step is such
 abbrev pub AreFewest : World → List Event → Type 0
 AreFewest old events = EachStep IsFewest old events
+
+-- In every run each call for room discards as few objects as it can.
+abbrev pub FewestLaw : (honest : Type 0) → Type 0
+FewestLaw honest = (format : Format) (old new : World) (events : List Event) → IsWorld old → All (λ e. IsCommand e.command) events → Run (Step honest format) old events new → AreFewest old events

@@ -1,12 +1,58 @@
 -- What holds of every world, and the laws of steps and runs of the whole machine. Each law is the contract of a function of the module `laws`.
 use Rattle.w16_machine.specs
-use Rattle.std.specs.Prelude.{◌≡◌, ◌≢◌, ℕ, ◌+◌, ◌≤◌, ◌⊎◌, false, List, length, All, Some, IfSome}
-use Rattle.w16_model.specs.{declared.TheConstants.MOST_SLOTS, Heap.Heap, Heap.bytes_at, Owned.is_code}
-use Rattle.w16_loading.specs.{File.Format, Law.IsLoadingWorld, Law.IsOfFiles, Replies.Reply}
-use specs.Local.{AreLocalHeaps, LocalHeap, heap_of, local_in}
-use specs.Machine.{Command, IsCommand, Step, Event, Run}
-use specs.{World.World, World.empty_world, Fewest.AreFewest}
+use Rattle.std.specs.Prelude.{◌≡◌, ◌≢◌, ℕ, ◌+◌, ◌≤◌, ◌⊎◌, false, List, length, All, Some, IfSome, true, is_some, IsSomeAnd, [], ◌∷◌}
+use Rattle.w16_model.specs.{declared.TheConstants.MOST_SLOTS, Heap.Heap, Heap.bytes_at, Owned.is_code, declared.Item.Item, Handles.handle_of, Walk.IsWalk, Heap.object_at, Heap.is_fixed, Table.Table, Table.heap_in, Law.AreHandles, Handles.Handles}
+use Rattle.w16_loading.specs.Law.{IsLoadingWorld, IsOfFiles, empty_loading_world, IsLoadingCommand, FarReplies}
+use Rattle.w16_loading.specs.Replies.{Reply, HandleReplies, ResizeReplies}
+use Rattle.w16_loading.specs.Families.LoadingCommand.{OfHandles, OfResizes, OfFar}
+use Rattle.w16_loading.specs.{File.Format, Families.LoadingCommand}
+use specs.Local.{LocalHeap, heap_of, local_in, IsLocalTable, segment_bytes}
+use specs.Machine.{Command, Step, Event, Run}
+use specs.{World.World, Machine.Command.OfLoading, Machine.Command.OfLocals}
 use Rattle.std.specs.FinMap as finmap
+
+-- the world over a memory and a store, with so many slots, in which nothing is allocated and nothing loaded
+abbrev pub empty_world : ℕ → ℕ → List (List ℕ × List ℕ) → ℕ → World
+empty_world memory slots files failures = record { loading = empty_loading_world memory slots files failures; heaps = finmap.empty; ds = 0 }
+
+-- a world's walk names objects by their handles
+abbrev pub IsWorldWalk : World → List Item → Type 0
+IsWorldWalk world items = IsWalk handle_of world.loading.handles.heap items
+
+-- each fixed object has bytes, so that each object has a name
+abbrev pub AreNamed : Heap → Type 0
+AreNamed heap = (id : ℕ) → IfSome (object_at heap id) (λ o. is_fixed o.kind ≡ true → is_some o.bytes ≡ true)
+
+-- a table is a local heap's in these bytes of its segment
+abbrev pub IsLocalIn : Table → List ℕ → Type 0
+IsLocalIn t bytes = IsLocalTable t × (t.hi ≤ length bytes) × AreNamed (heap_in t bytes)
+
+-- what holds of the local heaps of every world
+pub record AreLocalHeaps (w : World) : Type 0 where
+  pub handles : AreHandles w.loading.handles
+  pub heaps : (slot : ℕ) → IfSome (finmap.get w.heaps slot) (λ t. IsSomeAnd (segment_bytes w slot) (IsLocalIn t))
+
+-- a command's numbers are in their range, where they have one
+abbrev pub IsCommand : Command → Type 0
+IsCommand (OfLoading command) = IsLoadingCommand command
+IsCommand (OfLocals command) = Unit {0}
+
+-- What a command does to handles alone, where it does nothing else: a call on them, or a far access that fetches nothing.
+abbrev pub OnHandles : Handles → LoadingCommand → Reply → Handles → Type 0
+OnHandles old (OfHandles command) reply new = HandleReplies old command reply new
+OnHandles old (OfResizes command) reply new = ResizeReplies old command reply new
+OnHandles old (OfFar command) reply new = FarReplies old command reply new
+OnHandles old command reply new = ⊥
+
+-- the same world, which says nothing of the count of failures, but that it isn't lowered
+pub record IsSame (old new : World) : Type 0 where
+  pub counted : old.loading.failures ≤ new.loading.failures
+  pub same : new ≡ record old { loading = record old.loading { failures = new.loading.failures } }
+
+-- this holds of each step, from the world before it
+abbrev pub EachStep : (World → Event → Type 0) → World → List Event → Type 0
+EachStep holds old [] = Unit {0}
+EachStep holds old (event ∷ events) = holds old event × EachStep holds event.after events
 
 -- What holds of every world, whatever the store is.
 pub record IsWorld (w : World) : Type 0 where
@@ -49,7 +95,3 @@ RunWorldLaw honest = (format : Format) (old new : World) (events : List Event) �
 
 abbrev pub RunFilesLaw : (honest : Type 0) → Type 0
 RunFilesLaw honest = (format : Format) (old new : World) (events : List Event) → honest → IsWorldOfFiles format old → All (λ e. IsCommand e.command) events → Run (Step honest format) old events new → IsWorldOfFiles format new
-
--- In every run each call for room discards as few objects as it can.
-abbrev pub FewestLaw : (honest : Type 0) → Type 0
-FewestLaw honest = (format : Format) (old new : World) (events : List Event) → IsWorld old → All (λ e. IsCommand e.command) events → Run (Step honest format) old events new → AreFewest old events

@@ -1,8 +1,8 @@
 -- Local heaps: each in a segment, which is one object of the global heap. A local heap is kept as a table over its segment's bytes, and it is the
 -- heap that the table stands for in them. So a far write into the segment, and a move of it, are no steps of the local heap.
-use Rattle.std.specs.Prelude.{◌≡◌, ℕ, ◌+◌, ◌-◌, ◌*◌, ◌/◌, ◌<◌, ◌≤◌, Bool, true, false, ◌&&◌, ◌==◌, if◌then◌else◌, nat_le, nat_lt, min, List, [], length, replicate, find, All, Option, Some, None, option_map, is_some, IfSome, IsSomeAnd}
+use Rattle.std.specs.Prelude.{◌≡◌, ℕ, ◌+◌, ◌-◌, ◌*◌, ◌/◌, ◌<◌, ◌≤◌, Bool, false, ◌&&◌, ◌==◌, if◌then◌else◌, nat_le, nat_lt, min, List, [], length, replicate, find, All, Option, Some, None, option_map, is_some}
 use Rattle.std.specs.{Ordering.nat_cmp, FinMap.FinMap}
-use Rattle.w16_model.specs.{declared.Span.Span, Heap.Heap, Heap.Object, Heap.blocks, Heap.object_at, Heap.bytes_at, Heap.is_fixed, Far.after_write, Owned.is_code, Handles.AreHandles, Handles.slot_of_selector, Table.Table, Table.IsSound, Table.IsSameOutside, Table.heap_in}
+use Rattle.w16_model.specs.{declared.Span.Span, Heap.Heap, Heap.Object, Heap.blocks, Heap.object_at, Heap.bytes_at, Heap.is_fixed, Far.after_write, Owned.is_code, Handles.slot_of_selector, Table.Table, Table.IsSound, Table.IsSameOutside, Table.heap_in}
 use Rattle.w16_machine.specs.declared.local.TheConstants.{LOCAL_GRAIN, LOCAL_ENTRIES, LAST_LOCAL_END}
 use Rattle.w16_machine.specs.World.{World}
 use Rattle.w16_loading.specs.Modules.{with_handles}
@@ -178,17 +178,3 @@ has_range heap tables slot = elim (finmap.get tables slot) [
 -- end
 abbrev pub left_in : Heap → FinMap nat_cmp Table → FinMap nat_cmp Table
 left_in heap tables = finmap.retain_keys tables (has_range heap tables)
-
--- What holds of the local heaps of every world.
-
--- each fixed object has bytes, so that each object has a name
-abbrev pub AreNamed : Heap → Type 0
-AreNamed heap = (id : ℕ) → IfSome (object_at heap id) (λ o. is_fixed o.kind ≡ true → is_some o.bytes ≡ true)
-
--- a table is a local heap's in these bytes of its segment
-abbrev pub IsLocalIn : Table → List ℕ → Type 0
-IsLocalIn t bytes = IsLocalTable t × (t.hi ≤ length bytes) × AreNamed (heap_in t bytes)
-
-pub record AreLocalHeaps (w : World) : Type 0 where
-  pub handles : AreHandles w.loading.handles
-  pub heaps : (slot : ℕ) → IfSome (finmap.get w.heaps slot) (λ t. IsSomeAnd (segment_bytes w slot) (IsLocalIn t))

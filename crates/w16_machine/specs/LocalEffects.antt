@@ -4,10 +4,10 @@ use Rattle.std.specs.Prelude.{◌≡◌, ℕ, ◌+◌, ◌-◌, ◌<◌, ◌⊎�
 use Rattle.w16_model.specs.{Heap.Object, Heap.object_at, Heap.is_fixed, Heap.is_discardable, Calls.has_flag, CallLaws.IsNewestOf}
 use Rattle.w16_loading.specs.{Replies.Reply, Replies.Reply.Word}
 use specs.declared.local.TheConstants.{LMEM_MOVEABLE, LMEM_MODIFY}
-use specs.Local.{LocalObject, AreLocalHeaps, heap_of, object_named}
+use specs.Local.{LocalObject, heap_of, object_named}
 use specs.LocalCalls.{LocalCommand, LocalStep, moveable_or_discardable}
 use specs.LocalCalls.LocalCommand.{LocalReAlloc, LocalDiscard, LocalFree, LocalLock, LocalUnlock}
-use specs.{World.World, LocalLaw.named_by, LocalFewest.Left}
+use specs.{World.World, LocalLaw.named_by, LocalFewest.Left, Law.AreLocalHeaps}
 use Rattle.std.specs.FinMap as finmap
 
 -- a name names this object of the current heap

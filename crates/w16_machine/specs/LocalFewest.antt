@@ -3,11 +3,11 @@ use Rattle.w16_machine.specs
 use Rattle.std.specs.Prelude.{◌≡◌, ◌≢◌, ℕ, ◌<◌, ◌⊎◌, true, false, length, Some, None, IsSomeAnd}
 use Rattle.w16_model.specs.Reallocation.{LacksPlace, ReallocatesFewest}
 use Rattle.w16_model.specs.{declared.RoomOptions.RoomOptions, Heap.Heap, Heap.object_at, Heap.size_of, Calls.has_flag, Fewest.AllocatesFewest, Fewest.CompactsFewest, Fewest.LacksRoom, Ends.ending, Handles.Handles, Handles.slot_of_handle, Resizes.GlobalReAllocs}
-use specs.Local.{LocalHeap, LocalObject, AreLocalHeaps, heap_of, local_in, current_heap, object_named, name_at, rounded_up}
+use specs.Local.{LocalHeap, LocalObject, heap_of, local_in, current_heap, object_named, name_at, rounded_up}
 use specs.LocalGrowth.{IsLongerSize, Lengthens, growth_flags, longer, with_longer}
 use specs.LocalCalls.{LocalAllocs, LocalReallocs, LocalCompacts, IsEmptyFixed, HasNoEntry, local_options}
-use specs.{declared.local.TheConstants.LMEM_MODIFY, World.World, LocalLaw.KeepsRest}
-use Rattle.w16_model.specs.Resizes as resizes
+use specs.{declared.local.TheConstants.LMEM_MODIFY, World.World, LocalLaw.KeepsRest, Law.AreLocalHeaps}
+use Rattle.w16_model.specs.CallLaws as resizes
 
 -- what is so of the heap that a call leaves in a segment
 abbrev pub Left : World → LocalHeap → (Heap → Type 0) → Type 0

@@ -1,18 +1,19 @@
 -- The laws that show the definitions of local heaps to be the right ones. Each is the contract of a function of the module `local_laws`.
 use Rattle.w16_machine.specs
 use Rattle.std.specs.Prelude.{Bool, false, ◌≡◌, ◌≢◌, ℕ, ◌+◌, ◌<◌, ◌≤◌, ◌⊎◌, ◌↔◌, ◌==◌, ◌&&◌, ◌||◌, not, true, List, length, take, All, Option, Some, None, is_some, option_map, IsSomeAnd}
-use Rattle.w16_model.specs.Heap.{Heap, Object, IsHeap, IsMultiple, empty_heap, object_at, bytes_at, is_pinned_object}
-use Rattle.w16_model.specs.{declared.Span.Span, declared.Kind.Kind, declared.Kind.TheVariants.Discardable, Law.StandsStill, Calls.has_flag, declared.RoomOptions.RoomOptions, CallLaws.IsKeptOrDiscarded, CallLaws.OnlyLeave, CallLaws.OthersStand, Far.FarCommand, Far.IsFarCommand}
-use Rattle.w16_model.specs.{Owned.is_code, Handles.slot_of_selector, Table.Table, Table.IsSameOutside, Table.heap_in}
+use Rattle.w16_model.specs.Heap.{Heap, Object, IsHeap, IsMultiple, object_at, bytes_at, is_pinned_object}
+use Rattle.w16_model.specs.{declared.Span.Span, declared.Kind.Kind, declared.Kind.TheVariants.Discardable, Law.StandsStill, Calls.has_flag, declared.RoomOptions.RoomOptions, CallLaws.IsKeptOrDiscarded, CallLaws.OnlyLeave, CallLaws.OthersStand, Far.FarCommand, Law.IsFarCommand}
+use Rattle.w16_model.specs.{Owned.is_code, Handles.slot_of_selector, Table.Table, Table.IsSameOutside, Table.heap_in, Law.empty_heap}
 use specs.declared.local.TheConstants.{LOCAL_GRAIN, LOCAL_ENTRIES, LAST_LOCAL_END, LMEM_MOVEABLE, LMEM_NOCOMPACT, LMEM_NODISCARD, LMEM_ZEROINIT, LMEM_MODIFY, LMEM_DISCARDABLE, LMEM_DISCARDED}
 use specs.World.{World}
-use specs.Local.{LocalHeap, Beginning, AreLocalHeaps, IsLowestFree, AreNamed, segment_bytes, heap_of, local_in, current_heap, name_at, id_named, id_at, beginning, selector_or_ds, new_table, left_in}
+use specs.Local.{LocalHeap, Beginning, IsLowestFree, segment_bytes, heap_of, local_in, current_heap, name_at, id_named, id_at, beginning, selector_or_ds, new_table, left_in}
+use specs.Law.{AreLocalHeaps, AreNamed}
 use specs.LocalGrowth.{IsGrowth, IsKeptShort, IsLongerSize, Lengthens, longer, with_longer}
 use specs.LocalCalls.{LocalCommand, LocalStep, MakesObject, IsRefusedAlloc, HasNoRoom, is_absent_asked, local_options}
 use specs.LocalCalls.LocalCommand.{LocalInit, LocalAlloc, LocalCompact, LocalReAlloc, LocalDiscard, LocalFree, LocalLock, LocalUnlock, LocalSize, LocalFlags, LocalHandle}
 use specs.Machine.{Command, Step, Event, Run, after_loading}
 use specs.Machine.Command.{OfLoading, OfLocals}
-use Rattle.w16_loading.specs.{File.Format, Modules.with_handles, Families.LoadingCommand, Replies.Reply, Replies.FarReplies, Replies.Reply.Word}
+use Rattle.w16_loading.specs.{File.Format, Modules.with_handles, Families.LoadingCommand, Replies.Reply, Law.FarReplies, Replies.Reply.Word}
 use Rattle.std.specs.FinMap as finmap
 
 -- The figures.

@@ -4,8 +4,8 @@ use Rattle.w16_model.specs.{declared.Kind.Kind, Heap.bytes_at, Heap.object_at, H
 use Rattle.w16_loading.specs.Families.LoadingCommand.{OfHandles, OfResizes, OfFar, OfModules, OfResources}
 use Rattle.w16_loading.specs.Families.ModuleCommand.{LoadModule, LoadLibrary, FreeLibrary, FreeModule}
 use Rattle.w16_loading.specs.Families.ResourceCommand.{LoadResource, LockResource, FreeResource}
-use Rattle.w16_loading.specs.{Answers.StepOver, File.Format, Families.LoadingCommand, Families.ModuleCommand, Families.ResourceCommand, Families.far_reads_file, Modules.LoadingWorld, Replies.Reply}
-use Rattle.w16_machine.specs.{World.World, Local.AreLocalHeaps, LocalCalls.LocalCommand, LocalCalls.LocalStep, LocalLaw.may_grow, Machine.Step, Machine.Command.OfLoading}
+use Rattle.w16_loading.specs.{Answers.StepOver, File.Format, Families.LoadingCommand, Families.ModuleCommand, Families.ResourceCommand, Law.far_reads_file, Modules.LoadingWorld, Replies.Reply}
+use Rattle.w16_machine.specs.{World.World, Law.AreLocalHeaps, LocalCalls.LocalCommand, LocalCalls.LocalStep, LocalLaw.may_grow, Machine.Step, Machine.Command.OfLoading}
 
 -- GlobalAlloc and GlobalCompact may discard objects, and GlobalFree takes one away.
 abbrev pub call_may_take : HandleCommand → Bool

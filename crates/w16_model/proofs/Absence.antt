@@ -1,6 +1,6 @@
 -- A discard leaves a heap.
 use Rattle.w16_model.proofs
-use proofs.Common.{◌≡◌, ◌≢◌, ℕ, ◌≤◌, inl, inr, Bool, true, false, cond, not, ◌&&◌, ◌==◌, nat_lt, IfOk, IfSome, Option, Some, None, Result, Ok, Err, option_map, is_some, refl, sym, ap, ◌∙◌, subst, arith, ltb-false, cases_eq, Block, Refusal, is_member, Heap, Object, IsHeap, IsCounted}
+use proofs.Common.{◌≡◌, ◌≢◌, ℕ, inl, inr, Bool, true, false, cond, not, ◌&&◌, ◌==◌, nat_lt, IfOk, IfSome, Option, Some, None, Result, Ok, Err, option_map, is_some, refl, sym, ap, ◌∙◌, subst, arith, ltb-false, cases_eq, Block, Refusal, is_member, Heap, Object, IsHeap, IsCounted}
 use proofs.Common.{object_at, is_in_order, is_discardable, absent, update, without, after_discard, DiscardHeapLaw}
 use proofs.Heaps.{IsBlockOf, block_of_absent, get-update_same, get-update_other}
 use proofs.KeptHeaps.{Stands, same_placed, same_grained, taken_here, taken_other, bytes_in, AreBytes}

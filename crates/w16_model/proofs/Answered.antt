@@ -3,7 +3,7 @@ use Rattle.w16_model.proofs
 use proofs.Common as C
 use proofs.Gaps as M
 use proofs.Discards as K
-use proofs.Common.{◌≡◌, ◌≢◌, ℕ, zero, ◌+◌, ◌<◌, ◌≤◌, inl, inr, Bool, true, false, not, ◌&&◌, ◌||◌, ◌==◌, IsTrue, List, ◌∷◌, length, take, filter, fold, All, Some, None, refl, sym, ap, ◌∙◌, subst, arith, false≢true, Block, Kind, is_pinned, Heap, blocks, eligible, with_newest, discarded}
+use proofs.Common.{◌≡◌, ◌≢◌, ℕ, zero, ◌<◌, ◌≤◌, inl, inr, Bool, true, false, not, ◌||◌, ◌==◌, IsTrue, List, length, take, filter, fold, All, Some, None, refl, sym, ap, ◌∙◌, subst, arith, false≢true, Block, Kind, is_pinned, Heap, blocks, eligible, with_newest, discarded}
 use proofs.Common.{stays_for, Settles, IsNew}
 use proofs.Heaps.{block_member, member_block, blocks_differ}
 use proofs.{Members.permutation_from, Least.take_past, Prefixes.without_compact}

@@ -1,7 +1,7 @@
 -- Which requests are answered.
 use Rattle.w16_model.proofs.Common as C
 use Rattle.w16_model.proofs.Common.{◌≡◌, ℕ, Bool, true, false, not, ◌&&◌, ◌||◌, nat_le, if◌then◌else◌, MatchBool, List, length, take, Option, Some, None, is_some, sym, ap, ◌∙◌, Kind, fits_in_place, growth_for, Heap, Object, with_object, Grows, IsNew, IsGrown, discards_needed, snapshot_of}
-use Rattle.w16_model.specs.Ends.{is_grown, is_resized, is_answered, AnswerLaw}
+use Rattle.w16_model.specs.{Ends.is_answered, Ends.is_grown, Ends.is_resized, Law.AnswerLaw}
 
 module _ (old new : Heap) (id n : ℕ) (options : C.RoomOptions) (answered : Bool) where
   by_prefix : (p : Option ℕ) (becomes : Object → Type 0) (order : Object → List ℕ → List ℕ) → C.Request old id (record { options = options; prefix = p; becomes = becomes; order = order }) answered new → answered ≡ is_some p

@@ -1,7 +1,7 @@
 -- What each call leaves of the objects that it isn't about, and of the order of use, by its outcome.
 use Rattle.w16_model.proofs
 use proofs.Common as C
-use proofs.Common.{◌≡◌, ◌≢◌, ℕ, ◌+◌, ◌-◌, ◌==◌, ◌⊎◌, inl, inr, Bool, true, false, not, ◌&&◌, ◌||◌, nat_lt, IfSome, IsSomeAnd, take, Option, Some, None, is_some, refl, sym, ap, ◌∙◌, subst, false≢true, Kind, Fixed, GMEM_MOVEABLE, Heap, Object, object_at, is_fixed, is_pinned_object}
+use proofs.Common.{◌≡◌, ◌≢◌, ℕ, ◌+◌, ◌-◌, ◌==◌, ◌⊎◌, inl, inr, Bool, true, false, not, ◌&&◌, ◌||◌, nat_lt, IfSome, IsSomeAnd, Option, Some, None, is_some, refl, sym, ap, ◌∙◌, subst, false≢true, Kind, Fixed, GMEM_MOVEABLE, Heap, Object, object_at, is_fixed, is_pinned_object}
 use proofs.Common.{with_newest, Handles, slots_for, has_flag, rounded_size, alloc_options, StandsStill, Call, Outcome, IsSame, IsUnmoved, IsLocked, IsUnlocked, IsFreed, IsNewest, IsOldest, IsEntered, IsAllocated, IsCompacted, IsModified, IsDiscarded, IsResized, handle_in, IsAbout}
 use proofs.Common.{may_change, may_move_own, may_move_others}
 use proofs.KeptHeaps.{inserted_other, taken_other, bytes_in}

@@ -4,7 +4,7 @@ use proofs.Common as C
 use proofs.Gaps as M
 use proofs.Housed as K
 use proofs.Common.{◌≡◌, ◌≢◌, ℕ, ◌+◌, ◌-◌, ◌/◌, ◌<◌, ◌==◌, ◌⊎◌, inl, inr, Bool, true, false, cond, not, IsSomeAnd, List, [], ◌∷◌, length, map, take, Option, Some, None, option_map, is_some, unwrap_or, refl, sym, ap, ◌∙◌, subst, arith, eq-eqb, ne_eqb, false≢true, cases_eq, Block, Kind}
-use proofs.Common.{Fixed, Moveable, Discardable, eligible, is_member, Heap, Object, blocks, object_at, bytes_at, without, moved_bytes, is_elsewhere, Handles, AreHandles, slot_of_handle, handle_of, Answer, rounded_size, Word, Dword, realloc_options, Call, ReAllocs, Calls, Outcome, Resized}
+use proofs.Common.{eligible, is_member, Heap, Object, blocks, object_at, bytes_at, without, moved_bytes, is_elsewhere, Handles, AreHandles, slot_of_handle, handle_of, Answer, rounded_size, Word, Dword, realloc_options, Call, ReAllocs, Calls, Outcome, Resized}
 use proofs.Common.{counts_moved, IsSame, IsUnmoved, IsLocked, IsUnlocked, IsFreed, IsNewest, IsOldest, IsEntered, IsAllocated, IsCompacted, IsModified, IsDiscarded, IsResized, KeepsContents, may_change, IsMoved, size_at, IsSumOfMoved, next_slot, slot_after}
 use proofs.Heaps.{IsBlockOf, block_member, member_block, blocks_rise, keys_rise}
 use proofs.KeptHeaps.{bytes_in, inserted_other, taken_other}

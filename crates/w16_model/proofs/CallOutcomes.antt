@@ -1,11 +1,11 @@
 -- Each call on handles has one of the outcomes.
 use Rattle.w16_model.proofs
 use proofs.Common as C
-use proofs.Common.{◌≡◌, ℕ, ◌+◌, ◌-◌, ◌≤◌, ◌⊎◌, inl, inr, Bool, true, false, cond, not, ◌||◌, ◌==◌, if◌then◌else◌, MatchBool, IsSomeAnd, nat_lt, IfOk, List, [], ◌∷◌, filter, Option, Some, None, Result, Ok, Err, is_some, refl, sym, ap, ◌∙◌, subst, arith, false≢true, Block, Refusal}
+use proofs.Common.{◌≡◌, ℕ, ◌+◌, ◌-◌, ◌⊎◌, inl, inr, Bool, true, false, cond, not, ◌||◌, ◌==◌, if◌then◌else◌, MatchBool, IsSomeAnd, nat_lt, IfOk, List, [], ◌∷◌, filter, Option, Some, None, Result, Ok, Err, is_some, refl, sym, ap, ◌∙◌, subst, arith, false≢true, Refusal}
 use proofs.Common.{GMEM_MODIFY, LARGEST_SIZE, Heap, Object, object_at, is_fixed, with_object, with_ordered, touched, IsNew, moved_bytes, is_elsewhere, after_lock, after_unlock, after_modify, refused_order, Handles, slot_of_handle, owns, Answer, handle_or_0, alloc_options, kind_asked}
 use proofs.Common.{rounded_size, has_flag, Word, Dword, GlobalAlloc, GlobalFree, GlobalLock, GlobalUnlock, GlobalCompact, GlobalLRUNewest, GlobalLRUOldest, Moved, Walk, ChangesKind, kind_modified, modified, IsNull, AnswersHandle, AnswersDiscard, Empties, Anew, ResizesObject, Resizes, Call}
 use proofs.Common.{IsNamed, counts_moved, Calls, ReAllocs, IsSame, IsUnmoved}
-use proofs.{Gaps.Member, Heaps.IsBlockOf, Heaps.member_block, Naming.names_law, KindChanges.kind_law, Absence.answer as discard_answer, Absence.discard_is}
+use proofs.{Gaps.Member, Heaps.member_block, Naming.names_law, KindChanges.kind_law, Absence.answer as discard_answer, Absence.discard_is}
 use Rattle.std.specs.FinMap as finmap
 use Rattle.w16_model.specs.declared.Refusal.TheVariants as refusals
 

@@ -16,11 +16,11 @@ pub use Rattle.std.specs.FinMap.{FinMap, entries_sorted, get-empty, get-entries,
 pub use Rattle.std.specs.FinMap.Entries.{below_all, is_sorted}
 pub use Rattle.std.specs.List.{Contains, cons_option, filter_map, find, range_with_len}
 pub use Rattle.std.specs.Ordering.{eq_by_cmp, nat_cmp}
-pub use Rattle.w16_model.specs.Arrangement.{IsArrangement, IsFreeStretch, IsLongestStretch}
+pub use Rattle.w16_model.specs.Arrangement.{IsArrangement, IsFreeStretch, IsGap, IsLongestStretch}
 pub use Rattle.w16_model.specs.Bytes.{part, put_part}
 unfoldable pub use Rattle.w16_model.specs.Bytes.{repeated}
-pub use Rattle.w16_model.specs.CallLaws.{AttributesLaw, BystandersLaw, ContentsLaw, FarEffect, FarEffectLaw, IsAbout, IsKeptOrDiscarded, IsMoved, IsNewestOf, IsSumOfMoved, IsWritten, KeepsContents, MovedLaw, NewObjectLaw, OnlyLeave, OthersOrderLaw}
-pub use Rattle.w16_model.specs.CallLaws.{OthersStand, PinnedStayLaw, Reaches, ReadBackLaw, SlotsLaw, StillLaw, UnorderedLaw, UseLaw, handle_in, may_change, may_move_others, may_move_own, may_order, names, next_slot, size_at, slot_after}
+pub use Rattle.w16_model.specs.CallLaws.{AttributesLaw, BystandersLaw, ContentsLaw, FarEffect, FarEffectLaw, IsAbout, IsKeptOrDiscarded, IsMoved, IsNewestOf, IsSumOfMoved, IsWritten, KeepsContents, MovedLaw, NewObjectLaw, NullLaw, OnlyLeave, OthersOrderLaw}
+pub use Rattle.w16_model.specs.CallLaws.{OldHandleLaw, OthersStand, PinnedStayLaw, Reaches, ReadBackLaw, SlotsLaw, StillLaw, UnorderedLaw, UseLaw, handle_in, may_change, may_move_others, may_move_own, may_order, names, next_slot, size_at, slot_after}
 pub use Rattle.w16_model.specs.Calls.{Answer, GlobalAllocs, GlobalCompacts, HandleCommand, HandleStep, HasNoSlots, IsEmptyFixed, IsRefusedAlloc, IsTooLong, alloc_options, free_own, global_free, global_lock, global_unlock, handle_or_0, has_flag, is_absent_asked, kind_asked, locks_at, rounded_size}
 pub use Rattle.w16_model.specs.Calls.Answer.{Dword, Walked, Word}
 pub use Rattle.w16_model.specs.Calls.HandleCommand.{GetSelectorBase, GetSelectorLimit, GlobalAlloc, GlobalCompact, GlobalFlags, GlobalFree, GlobalHandle, GlobalLRUNewest, GlobalLRUOldest, GlobalLock, GlobalSize, GlobalUnlock, Moved, Walk}
@@ -31,12 +31,12 @@ pub use Rattle.w16_model.specs.Far.{FarAnswer, after_write, data_write, far_at, 
 pub use Rattle.w16_model.specs.Far.FarAnswer.{Bytes, Done, Fault}
 pub use Rattle.w16_model.specs.Far.FarCommand.{Fill, Read, Write}
 pub use Rattle.w16_model.specs.Fewest.{AllocatesFewest, AllocationLaw, CompactionLaw, GlobalAllocLaw, GlobalCompactLaw, HasNoStretch, IsMostAfter, LacksRoom, MakesMost}
-pub use Rattle.w16_model.specs.Gap.{ArePlaced, IsClear, IsGap, IsGapOf, IsHole, IsLaid, Misses, begins_in, block_end, first_from, gaps, holds_still, hole_after, holes, is_any, is_loose, is_pinned, largest, longest_hole, loose_bytes, room, room_from, spans_from, starts}
-pub use Rattle.w16_model.specs.Handles.{AreHandles, AreRuns, Gives, Handles, IsFreeRun, IsFreeSlot, IsOwnedRun, IsRun, IsSized, IsSlot, Part, empty_handles, far_pointer, handle_of}
+pub use Rattle.w16_model.specs.Gap.{ArePlaced, IsClear, IsGapOf, IsHole, IsLaid, Misses, begins_in, block_end, first_from, holds_still, hole_after, is_any, is_loose, is_pinned, largest, longest_hole, loose_bytes, room, room_from, starts}
+pub use Rattle.w16_model.specs.Handles.{Gives, Handles, IsFreeRun, IsFreeSlot, IsSlot, Part, far_pointer, handle_of}
 pub use Rattle.w16_model.specs.Handles.{has_slot, offset_in, owner_of, part_of_selector, reached, selector_in, selector_of, slot_of_handle, slot_of_selector, slots_at, slots_for}
-pub use Rattle.w16_model.specs.Heap.{Heap, IsCounted, IsHeap, IsMultiple, Object, block_of, blocks, bytes_at, empty_heap, hold_of_object, is_discardable, is_fixed, is_in_order, is_pinned_object, object_at, size_of}
-pub use Rattle.w16_model.specs.Law.{AddressLaw, AreAllOf, DiscardsAreLeast, EmptyLaw, FarLaw, GapListLaw, HandleLaw, HoleAfterLaw, HoleIsLongest, KeepsOthers, LargestLaw, LeastLaw, LongerLaw}
-pub use Rattle.w16_model.specs.Law.{MoreDiscardsLaw, NamesLaw, NoStretch, OthersLaw, OutcomeLaw, OwnerLaw, PinnedLaw, RangeLaw, ReachLaw, RisingLaw, RoomLaw, SoundLaw, StandsStill, WalkLaw, all_pinned}
+pub use Rattle.w16_model.specs.Heap.{Heap, IsCounted, IsHeap, IsMultiple, Object, block_of, blocks, bytes_at, hold_of_object, is_discardable, is_fixed, is_in_order, is_pinned_object, object_at, size_of}
+pub use Rattle.w16_model.specs.Law.{AddressLaw, AreAllOf, AreHandles, AreRuns, DiscardsAreLeast, EmptyLaw, FarLaw, GapListLaw, HandleLaw, HoleAfterLaw, HoleIsLongest, IsOwnedRun, IsRun, KeepsOthers, LargestLaw, LeastLaw, LongerLaw, gaps, holes, spans_from}
+pub use Rattle.w16_model.specs.Law.{IsFirstItem, IsSized, MoreDiscardsLaw, NamesLaw, NoStretch, OthersLaw, OutcomeLaw, OwnerLaw, PinnedLaw, RangeLaw, ReachLaw, RisingLaw, RoomLaw, SoundLaw, StandsStill, WalkLaw, all_pinned, empty_handles, empty_heap}
 pub use Rattle.w16_model.specs.OneObject.{Enters, after_discard, after_free, after_lock, after_modify, after_touch, after_unlock, refused_order}
 pub use Rattle.w16_model.specs.Outcomes.{Call, CallOutcomesLaw, CallStep, IsNamed, Orders, Outcome, Resized, attributes_asked, counts_moved}
 pub use Rattle.w16_model.specs.Outcomes.Call.{Calls, ReAllocs}
@@ -45,10 +45,11 @@ pub use Rattle.w16_model.specs.Owned.{is_owned, owns, refuses_write}
 pub use Rattle.w16_model.specs.Reallocation.{AreResized, ChangesKind, DiscardHeapLaw, FewestLaw, HeapLaw, IsArrangementWithout, IsFreeBehind, IsFreeWithout, IsLongestWithout, KeepsRest, KindHeapLaw, KindLaw}
 pub use Rattle.w16_model.specs.Reallocation.{LacksPlace, LeftOutLaw, MovesLaw, MovesLittle, OneOutcomeLaw, ReallocatesFewest, RestLaw, counted_loose, is_counted, is_held, is_revived, loosened, without_all}
 pub use Rattle.w16_model.specs.Request.{Allocates, AreNew, Asked, Grows, IsGrown, IsNew, MakesRoom, Reallocates, ReallocatesObject, Request, Settles, StaysOrMovesToHole, compaction_prefix, discarded, discards_needed, eligible_count, is_elsewhere, most_room, moved_bytes, snapshot_of, stays_for}
-pub use Rattle.w16_model.specs.Resizes.{Anew, AnswersDiscard, AnswersHandle, CanExtend, Empties, GetsRun, GlobalReAllocs, IsNull, LacksRun, NullLaw, OldHandleLaw, OneSlotLaw}
-pub use Rattle.w16_model.specs.Resizes.{ReAllocsOwn, ResizeFewestLaw, ResizeLaw, Resizes, ResizesObject, kind_modified, modified, realloc_options, rehoused, rekeyed, with_run}
+pub use Rattle.w16_model.specs.Resizes.{Anew, AnswersDiscard, AnswersHandle, CanExtend, Empties, GetsRun, GlobalReAllocs, IsNull, LacksRun}
+pub use Rattle.w16_model.specs.CallLaws.{OneSlotLaw, ResizeFewestLaw, ResizeLaw}
+pub use Rattle.w16_model.specs.Resizes.{ReAllocsOwn, Resizes, ResizesObject, kind_modified, modified, realloc_options, rehoused, rekeyed, with_run}
 pub use Rattle.w16_model.specs.Table.{IsCountedBy, IsSound, IsTable, Table, block_with, by_id, entry_at, heap_in, hold_of_entry, is_listed, object_in}
-pub use Rattle.w16_model.specs.Walk.{HasBytes, IsFirstItem, IsItem, IsWalk}
+pub use Rattle.w16_model.specs.Walk.{HasBytes, IsItem, IsWalk}
 pub use Rattle.w16_model.specs.declared.Attributes.{Attributes}
 pub use Rattle.w16_model.specs.declared.Block.{Block}
 pub use Rattle.w16_model.specs.declared.Entry.{Entry}

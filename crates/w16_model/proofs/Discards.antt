@@ -2,10 +2,10 @@
 use Rattle.w16_model.proofs
 use proofs.Common as C
 use proofs.Heaps as M
-use proofs.Common.{◌≡◌, ◌≢◌, ℕ, zero, suc, ◌+◌, ◌≤◌, inl, inr, Bool, true, false, not, ◌&&◌, ◌||◌, ◌==◌, IsTrue, List, [], ◌∷◌, take, filter, fold, Option, refl, sym, ap, ◌∙◌, false≢true, not-true, not_from_false, or_from, Block, room, is_pinned, Heap, blocks, eligible, room_for}
+use proofs.Common.{◌≡◌, ◌≢◌, ℕ, zero, suc, ◌+◌, ◌≤◌, inl, inr, Bool, true, false, not, ◌&&◌, ◌||◌, ◌==◌, List, [], ◌∷◌, take, filter, fold, Option, refl, sym, ap, ◌∙◌, false≢true, not-true, not_from_false, or_from, Block, room, is_pinned, Heap, blocks, eligible, room_for}
 use proofs.Common.{is_member, is_about, is_pinned_id, snapshot, subst, arith, absent}
 use proofs.Gaps.{Member, Each-from, member_filter, filter_member, pairs_filter}
-use proofs.{Members.permutation_from, Members.room-permutation, Heaps.IsBlockOf, Removal.Fewer, Removal.room-fewer}
+use proofs.{Members.permutation_from, Members.room-permutation, Heaps.IsBlockOf, Removal.room-fewer}
 
 -- an id among others, as a test and as a fact
 pub is_member-true : (id : ℕ) (ids : List ℕ) → is_member id ids ≡ true → Member id ids

@@ -1,5 +1,5 @@
 -- The handles in which nothing is allocated.
-use Rattle.w16_model.proofs.Common.{◌≡◌, ℕ, ◌<◌, IfSome, All, Option, Some, None, is_some, refl, sym, ap, ◌∙◌, subst, arith, nat_cmp, get-empty, Block, GRAIN, Object, IsHeap, IsCounted, IsMultiple, empty_heap, blocks, is_in_order, false≢true, Attributes, IsRun, IsSized, slots_at, EmptyLaw}
+use Rattle.w16_model.proofs.Common.{◌≡◌, ℕ, ◌<◌, IfSome, All, Option, Some, None, is_some, refl, sym, ap, ◌∙◌, subst, arith, get-empty, Block, GRAIN, Object, IsHeap, IsCounted, IsMultiple, empty_heap, is_in_order, false≢true, Attributes, IsRun, IsSized, slots_at, EmptyLaw}
 use Rattle.w16_model.proofs.{Gaps.Each-from, Gaps.All-from_Each, Heaps.IsBlockOf, Heaps.member_block, Places.placed_from}
 use Rattle.std.specs.FinMap as finmap
 

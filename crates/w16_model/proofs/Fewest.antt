@@ -1,7 +1,7 @@
 -- Requests discard as few as they can, by the laws on what is needed and on what others keep.
 use Rattle.w16_model.proofs
 use proofs.Common as C
-use proofs.Common.{◌≡◌, ℕ, ◌<◌, ◌≤◌, ◌⊎◌, inl, inr, Bool, true, false, cond, not, ◌||◌, ◌&&◌, ◌==◌, nat_le, List, take, Option, Some, None, refl, sym, ap, ◌∙◌, subst, arith, MatchBool, unwrap_or, false≢true, Block, Kind, Fixed, needed, room_for, none_discarded_if, Heap, blocks, IsNew}
+use proofs.Common.{◌≡◌, ℕ, ◌<◌, ◌≤◌, ◌⊎◌, inl, inr, Bool, true, false, cond, not, ◌||◌, ◌&&◌, ◌==◌, nat_le, take, Option, Some, None, refl, sym, ap, ◌∙◌, subst, arith, MatchBool, unwrap_or, false≢true, Kind, Fixed, needed, room_for, none_discarded_if, Heap, blocks, IsNew}
 use proofs.Common.{compaction_prefix, eligible_count, snapshot_of, kind_asked, alloc_options, rounded_size}
 use proofs.Least.{discards_are_least, no_stretch, placed_filter}
 use proofs.{Longest.room_is_longest, Prefixes.needed_enough, Starts.hole_is_longest, Others.others_law}

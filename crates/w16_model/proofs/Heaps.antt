@@ -2,7 +2,7 @@
 use Rattle.w16_model.proofs
 use proofs.Common as C
 use Rattle.std.specs.{List.AllByRecursion as Each, FinMap.Entries.find}
-use proofs.Common.{◌≡◌, ◌≢◌, ℕ, ◌<◌, inl, inr, Bool, true, false, cond, ◌&&◌, ◌==◌, T, List, [], ◌∷◌, length, Option, Some, None, option_map, unwrap_or, refl, sym, ap, ◌∙◌, subst, arith, Less, Equal, is_eq, is_lt, eq_by_cmp, nat_cmp_total, filter_map, cons_option, FinMap, is_sorted}
+use proofs.Common.{◌≡◌, ◌≢◌, ℕ, ◌<◌, inl, inr, Bool, true, false, cond, ◌&&◌, T, List, [], ◌∷◌, length, Option, Some, None, option_map, unwrap_or, refl, sym, ap, ◌∙◌, subst, arith, Less, Equal, is_eq, is_lt, eq_by_cmp, nat_cmp_total, filter_map, cons_option, FinMap, is_sorted}
 use proofs.Common.{below_all, false≢true, Block, Heap, Object, blocks, block_of, hold_of_object, absent}
 use proofs.Gaps.{EachPair, Member, Each-at, Each-from, EachPair-map}
 use proofs.Members.{AllDiffer, permutation_from}

@@ -1,11 +1,11 @@
 -- What an object keeps at another handle.
 use Rattle.w16_model.proofs
 use proofs.Common as C
-use proofs.Common.{◌≡◌, ◌≢◌, ℕ, ◌/◌, inl, inr, Bool, true, false, cond, if◌then◌else◌, not, ◌&&◌, ◌==◌, List, [], ◌∷◌, ◌++◌, map, Option, Some, None, is_some, refl, sym, ap, ◌∙◌, subst, arith, false≢true, and_parts, Heap, Object, Kind, object_at, bytes_at, is_revived, without_all, Handles}
-use proofs.Common.{slots_for, rounded_size, Call, Calls, ReAllocs, Word, CanExtend, GetsRun, rehoused, with_run}
+use proofs.Common.{◌≡◌, ◌≢◌, ℕ, ◌/◌, inl, inr, Bool, true, false, cond, if◌then◌else◌, not, ◌&&◌, ◌==◌, List, [], ◌∷◌, ◌++◌, map, Option, Some, None, is_some, refl, sym, ap, ◌∙◌, subst, false≢true, Heap, without_all, Handles}
+use proofs.Common.{slots_for, rounded_size, ReAllocs, Word, CanExtend}
 use proofs.ResizedHandles.{answered, moves}
 use proofs.{CallLaws.rest_of, CallOrders.gone_bare, CallOrders.gone_for, KeptHeaps.inserted_here, KeptRest.no_more, Naming.slot_in_handle}
-use Rattle.w16_model.specs.{declared.Attributes.Attributes, Calls.is_shared, Resizes.ExtendedLaw, Resizes.PlaceLaw, Resizes.SharedLaw}
+use Rattle.w16_model.specs.{declared.Attributes.Attributes, Calls.is_shared, CallLaws.ExtendedLaw, CallLaws.PlaceLaw, CallLaws.SharedLaw}
 use Rattle.std.specs.FinMap as finmap
 
 module _ (old new : Handles) (handle size flags answer slot : ℕ) (is : C.AreHandles old) (found : C.slot_of_handle old handle ≡ Some slot) (r : C.Resized old (ReAllocs handle size flags) (Word answer) new) where

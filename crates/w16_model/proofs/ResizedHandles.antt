@@ -2,7 +2,7 @@
 use Rattle.w16_model.proofs
 use proofs.Common as C
 use proofs.KeptHandles as M
-use proofs.Common.{◌≡◌, ◌≢◌, ℕ, ◌/◌, ◌<◌, ◌≤◌, ◌⊎◌, inl, inr, Bool, true, false, ◌||◌, ◌==◌, MatchBool, IfOk, IsSomeAnd, List, Option, Some, None, Result, Ok, Err, is_some, refl, sym, ap, ◌∙◌, subst, arith, false≢true, cases_eq, Kind, Fixed, Moveable, Discardable, Refusal, LARGEST_SIZE}
+use proofs.Common.{◌≡◌, ◌≢◌, ℕ, ◌/◌, ◌<◌, ◌≤◌, ◌⊎◌, inl, inr, Bool, true, false, ◌||◌, ◌==◌, MatchBool, IfOk, IsSomeAnd, List, Option, Some, None, Result, Ok, Err, is_some, refl, sym, ap, ◌∙◌, subst, arith, false≢true, cases_eq, Kind, Fixed, Refusal, LARGEST_SIZE}
 use proofs.Common.{REACH, GMEM_MODIFY, Heap, Object, IsHeap, object_at, is_fixed, absent, moved_bytes, Call, Resized, Calls, ReAllocs, after_modify, Handles, AreHandles, IsSized, slots_at, slots_for, slot_of_handle, handle_of, Answer, has_flag, rounded_size, Word, Dword, ChangesKind}
 use proofs.Common.{ReallocatesFewest, realloc_options, kind_modified, modified, IsNull, AnswersHandle, Empties, Anew, Resizes}
 use proofs.Housed.{stays, housed_old, anew_handles}
@@ -12,7 +12,7 @@ use proofs.CallOutcomes.{outcome, reallocates}
 use proofs.KindChanges.{kind_law, kind_heap_law, modify_none}
 use proofs.Absence.{absent_heap, discard_heap_law, discard_absent}
 use proofs.{Fewest.some_handle, Naming.names_law, Naming.slot_in_handle, Runs.some_slots, Reallocations.fewest_law}
-use Rattle.w16_model.specs.{Owned.owned_at, declared.Owned.Owned}
+use Rattle.w16_model.specs.{declared.Owned.Owned}
 use Rattle.w16_model.specs.declared.Refusal.TheVariants as refusals
 
 -- The handles that are left.

@@ -1,5 +1,5 @@
 -- What the selectors of an object say, by their number.
-use Rattle.w16_model.proofs.Common.{◌≡◌, ℕ, ◌+◌, ◌-◌, ◌*◌, ◌/◌, ◌<◌, ◌≤◌, ◌==◌, cond, min, List, length, Option, Some, None, option_map, unwrap_or, refl, sym, ap, ◌∙◌, arith, eq-eqb, REACH, Object, object_at, Handles, AreHandles, slots_at, owner_of, handle_of, selector_of, bytes_at, Dword}
+use Rattle.w16_model.proofs.Common.{◌≡◌, ℕ, ◌+◌, ◌-◌, ◌*◌, ◌/◌, ◌<◌, cond, min, length, Option, Some, None, option_map, unwrap_or, sym, ap, ◌∙◌, arith, eq-eqb, REACH, Object, object_at, Handles, AreHandles, slots_at, owner_of, handle_of, selector_of, bytes_at, Dword}
 use Rattle.w16_model.proofs.{KeptHeaps.bytes_in, Runs.is_owner}
 use Rattle.w16_model.specs.Handles.{Gives, Part, dword_of, part_of_selector, reached}
 use Rattle.w16_model.specs.{Calls.global_handle, Calls.selector_base, Calls.selector_limit, Law.SelectorsLaw}

@@ -1,7 +1,11 @@
 -- Arrangements: every way in which the loose blocks of a heap may slide.
 use Rattle.std.specs.Prelude.{◌≡◌, ℕ, ◌+◌, ◌-◌, ◌<◌, ◌≤◌, ◌&&◌, IsTrue, List, All, AllPairs}
 use Rattle.w16_model.specs.declared.Block.{Block}
-use Rattle.w16_model.specs.Gap.{is_pinned, is_loose, begins_in, Misses, IsClear, IsGap}
+use Rattle.w16_model.specs.Gap.{is_pinned, is_loose, begins_in, Misses, IsClear, IsGapOf}
+
+-- a gap: a maximal interval without a pinned byte; what stands in it may slide
+abbrev pub IsGap : ℕ → ℕ → List Block → ℕ → ℕ → Type 0
+IsGap = IsGapOf is_pinned
 
 -- each loose block has a place in the gap where it stands now, and no two of them share a byte
 pub record IsArrangement (lo hi : ℕ) (xs : List Block) (place : Block → ℕ) : Type 0 where

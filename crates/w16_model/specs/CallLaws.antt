@@ -1,16 +1,20 @@
 -- The laws of each step on handles: what it keeps, what it counts, how it orders, what happens to objects that it isn't about. None says what
 -- the definitions of the calls say: each counts, lists and compares once more.
 use Rattle.w16_model.specs
-use Rattle.std.specs.Prelude.{◌==◌, ◌&&◌, ◌≡◌, ◌≢◌, ℕ, ◌+◌, ◌*◌, ◌<◌, ◌≤◌, ◌⊎◌, ◌↔◌, Bool, true, false, not, if◌then◌else◌, List, [], ◌∷◌, ◌++◌, length, take, drop, sum_by, AllPairs, Option, Some, None, IsSomeAnd, is_some, option_map, unwrap_or}
-use specs.declared.TheConstants.{REACH, GMEM_MOVEABLE, GMEM_NOCOMPACT, GMEM_MODIFY}
-use specs.Heap.{Heap, Object, object_at, bytes_at, is_in_order, is_pinned_object}
-use specs.Handles.{Handles, AreHandles, slot_of_handle, part_of_selector, selector_in, offset_in}
+use Rattle.std.specs.Prelude.{◌==◌, ◌&&◌, ◌≡◌, ◌≢◌, ℕ, ◌+◌, ◌*◌, ◌<◌, ◌≤◌, ◌⊎◌, ◌↔◌, Bool, true, false, not, if◌then◌else◌, List, [], ◌∷◌, ◌++◌, length, take, drop, sum_by, AllPairs, Option, Some, None, IsSomeAnd, is_some, option_map, unwrap_or, ◌/◌, map}
+use specs.declared.TheConstants.{REACH, GMEM_MOVEABLE, GMEM_NOCOMPACT, GMEM_MODIFY, LARGEST_SIZE}
+use specs.Heap.{Heap, Object, object_at, bytes_at, is_in_order, is_pinned_object, size_of}
+use specs.Handles.{Handles, slot_of_handle, part_of_selector, selector_in, offset_in, slots_for, handle_of}
 use specs.Calls.HandleCommand.{GlobalAlloc, GlobalFree, GlobalLock, GlobalUnlock, GlobalCompact, GlobalLRUNewest, GlobalLRUOldest}
 use specs.Far.FarCommand.{Read, Write, Fill}
 use specs.Far.FarAnswer.{Bytes, Done, Fault}
 use specs.Outcomes.{Call, CallStep, counts_moved}
 use specs.Outcomes.Call.{Calls, ReAllocs}
-use specs.{declared.Kind.TheVariants.Discardable, Bytes.part, Bytes.repeated, Discards.is_member, Changes.without, Law.StandsStill, Reallocation.without_all, Calls.Answer, Calls.HandleStep, Calls.AnswersAlloc, Calls.has_flag, Calls.Answer.Word, Far.FarCommand, Far.FarAnswer, Far.FarStep}
+use specs.Reallocation.{without_all, LacksPlace, ReallocatesFewest}
+use specs.Calls.{Answer, HandleStep, AnswersAlloc, has_flag, rounded_size, is_shared}
+use specs.Far.{FarCommand, FarAnswer}
+use specs.Resizes.{LacksRun, realloc_options, rehoused, GlobalReAllocs, CanExtend}
+use specs.{declared.Kind.TheVariants.Discardable, Bytes.part, Bytes.repeated, Discards.is_member, Changes.without, Law.StandsStill, Calls.Answer.Word, Owned.is_owned, Law.AreHandles, Law.FarStep}
 use Rattle.std.specs.FinMap as finmap
 
 -- Which object a call is about.
@@ -219,3 +223,52 @@ FarEffectLaw = (old new : Handles) (command : FarCommand) (answer : FarAnswer) �
 -- what was written is read back
 abbrev pub ReadBackLaw : Type 0
 ReadBackLaw = (old mid new : Handles) (pointer : ℕ) (slice : List ℕ) (answer : FarAnswer) → AreHandles old → FarStep old (Write pointer slice) Done mid → FarStep mid (Read pointer (length slice)) answer new → answer ≡ Bytes slice
+
+-- GlobalReAlloc.
+
+-- Fewest discards, where an object's handle and a size are given: an answered one has discarded as few as it can; a refused one has changed
+-- nothing, and the object would get more bytes and lacks a place for them, or lacks slots.
+abbrev pub ReallocFewest : Handles → ℕ → ℕ → ℕ → ℕ → Handles → Type 0
+ReallocFewest old handle size flags answer new = (slot : ℕ) → slot_of_handle old handle ≡ Some slot → is_owned old slot ≡ false → has_flag flags GMEM_MODIFY ≡ false → 0 < size → size ≤ LARGEST_SIZE
+    → IsSomeAnd (object_at old.heap slot) (λ o.
+    (answer ≢ 0 → (first : ℕ) × (heap : Heap) × (answer ≡ handle_of o.kind first) × (new.heap ≡ rehoused heap slot first) × ReallocatesFewest old.heap slot (rounded_size size) o (realloc_options flags) true heap)
+    × (answer ≡ 0 → (LacksRun old slot o (realloc_options flags) (slots_for (rounded_size size))
+    ⊎ ((size_of o < rounded_size size) × LacksPlace old.heap slot (rounded_size size) o (realloc_options flags))) × (new.heap ≡ old.heap)))
+
+-- it keeps what holds of handles
+abbrev pub ResizeLaw : Type 0
+ResizeLaw = (old new : Handles) (handle size flags answer : ℕ) → AreHandles old → GlobalReAllocs old handle size flags answer new → AreHandles new
+
+-- where it is NULL the heap is the same
+abbrev pub NullLaw : Type 0
+NullLaw = (old new : Handles) (handle size flags : ℕ) → AreHandles old → GlobalReAllocs old handle size flags 0 new → new.heap ≡ old.heap
+
+-- one that asks for a size discards as few as it can, and is NULL only where the object lacks slots, or would get more bytes and lacks a
+-- place for them
+abbrev pub ResizeFewestLaw : Type 0
+ResizeFewestLaw = (old new : Handles) (handle size flags answer : ℕ) → AreHandles old → GlobalReAllocs old handle size flags answer new → ReallocFewest old handle size flags answer new
+
+-- one whose bytes a single selector reaches then keeps its handle
+abbrev pub OneSlotLaw : Type 0
+OneSlotLaw = (old new : Handles) (handle size flags answer : ℕ) → AreHandles old → GlobalReAllocs old handle size flags answer new → rounded_size size ≤ REACH → answer ≢ 0 → answer ≡ handle
+
+-- the old handle is bad once there is another
+abbrev pub OldHandleLaw : Type 0
+OldHandleLaw = (old new : Handles) (handle size flags answer : ℕ) → AreHandles old → GlobalReAllocs old handle size flags answer new → answer ≢ 0 → answer ≢ handle → slot_of_handle new handle ≡ None
+
+-- an object keeps its handle where its own slots and those directly after them are enough
+abbrev pub ExtendedLaw : Type 0
+ExtendedLaw = (old new : Handles) (handle size flags answer slot : ℕ) → AreHandles old → GlobalReAllocs old handle size flags answer new → slot_of_handle old handle ≡ Some slot
+    → CanExtend old slot (slots_for (rounded_size size)) → answer ≢ 0 → answer ≡ handle
+
+-- at another handle it is shared with other tasks as it was
+abbrev pub SharedLaw : Type 0
+SharedLaw = (old new : Handles) (handle size flags answer slot : ℕ) → AreHandles old → GlobalReAllocs old handle size flags answer new → slot_of_handle old handle ≡ Some slot
+    → answer ≢ 0 → answer ≢ handle → is_shared new (answer / 8) ≡ is_shared old slot
+
+-- and one in the order of use keeps its place there: the order has its new slot where the old one stood, and has lost what was discarded
+abbrev pub PlaceLaw : Type 0
+PlaceLaw = (old new : Handles) (handle size flags answer slot : ℕ) → AreHandles old → GlobalReAllocs old handle size flags answer new → slot_of_handle old handle ≡ Some slot
+    → answer ≢ 0 → answer ≢ handle → is_member slot old.heap.order ≡ true
+    → (gone : List ℕ) × ((q : ℕ) → is_member q gone ≡ true → bytes_at new.heap q ≡ None)
+    × (new.heap.order ≡ map (λ q. if q == slot then answer / 8 else q) (without_all gone old.heap.order))

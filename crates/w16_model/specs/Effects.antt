@@ -3,13 +3,13 @@ use Rattle.w16_model.specs
 use Rattle.std.specs.Prelude.{◌≡◌, ◌≢◌, ℕ, ◌+◌, ◌*◌, ◌-◌, ◌<◌, ◌≤◌, Bool, true, false, if◌then◌else◌, nat_lt, List, length, Some, None, is_some, IsSomeAnd}
 use specs.declared.TheConstants.{REACH, GMEM_MOVEABLE, GMEM_MODIFY}
 use specs.Heap.{Object, object_at, bytes_at, is_fixed, is_discardable}
-use specs.Handles.{Handles, AreHandles, Part, slot_of_handle, part_of_selector, selector_of, selector_in, offset_in, far_pointer}
+use specs.Handles.{Handles, Part, slot_of_handle, part_of_selector, selector_of, selector_in, offset_in, far_pointer}
 use specs.Calls.{Answer, HandleStep, has_flag, rounded_size}
 use specs.Calls.Answer.{Word, Dword}
 use specs.Calls.HandleCommand.{GlobalFree, GlobalLock, GlobalUnlock}
 use specs.Resizes.{GlobalReAllocs, kind_modified, realloc_options}
 use specs.Far.FarCommand.{Read, Write, Fill}
-use specs.{declared.FarFault.FarFault, Owned.owns, Owned.refuses_write, Reallocation.IsResized, Outcomes.IsNamed, Far.FarCommand, Far.FarAnswer, Far.FarStep, Far.FarAnswer.Fault}
+use specs.{declared.FarFault.FarFault, Owned.owns, Owned.refuses_write, Reallocation.IsResized, Outcomes.IsNamed, Far.FarCommand, Far.FarAnswer, Law.FarStep, Far.FarAnswer.Fault, Far.pointer_in, Law.AreHandles}
 
 -- a lock of an object that has bytes and isn't fixed is counted, while fewer than 255 are
 abbrev pub LockLaw : Type 0
@@ -50,11 +50,6 @@ abbrev pub count_in : FarCommand → ℕ
 count_in (Read pointer count) = count
 count_in (Write pointer bytes) = length bytes
 count_in (Fill pointer count byte) = count
-
-abbrev pub pointer_in : FarCommand → ℕ
-pointer_in (Read pointer count) = pointer
-pointer_in (Write pointer bytes) = pointer
-pointer_in (Fill pointer count byte) = pointer
 
 abbrev pub writes : FarCommand → Bool
 writes (Read pointer count) = false

@@ -1,9 +1,9 @@
 -- Far accesses: bytes at selector:offset.
 use Rattle.w16_model.specs
-use Rattle.std.specs.Prelude.{ℕ, ◌+◌, ◌*◌, ◌<◌, Bool, ◌||◌, if◌then◌else◌, nat_lt, All, List, [], length, unwrap_or, Option, Some, None, option_map}
+use Rattle.std.specs.Prelude.{ℕ, ◌+◌, ◌*◌, Bool, ◌||◌, if◌then◌else◌, nat_lt, List, [], length, unwrap_or, Option, Some, None, option_map}
 use specs.declared.FarFault.TheVariants.{BadSelector, ReadOnly, NotPresent, Limit}
-use specs.Handles.{Handles, Part, Gives, part_of_selector, selector_in, offset_in}
-use specs.{declared.FarFault.FarFault, Bytes.part, Bytes.put_part, Bytes.repeated, Heap.Heap, Heap.bytes_at, Changes.update, OneObject.after_touch, Owned.refuses_write, declared.TheConstants.REACH}
+use specs.Handles.{Handles, Part, part_of_selector}
+use specs.{declared.FarFault.FarFault, Bytes.part, Bytes.put_part, Heap.Heap, Heap.bytes_at, Changes.update, OneObject.after_touch, Owned.refuses_write, declared.TheConstants.REACH}
 
 -- an access to bytes that a far pointer points to
 pub data FarCommand : Type 0 where
@@ -11,11 +11,11 @@ pub data FarCommand : Type 0 where
   Write : (pointer : ℕ) (bytes : List ℕ) → FarCommand
   Fill : (pointer count byte : ℕ) → FarCommand
 
--- what is written are bytes
-abbrev pub IsFarCommand : FarCommand → Type 0
-IsFarCommand (Read pointer count) = Unit {0}
-IsFarCommand (Write pointer bytes) = All (λ b. b < 256) bytes
-IsFarCommand (Fill pointer count byte) = byte < 256
+-- the far pointer that an access has
+abbrev pub pointer_in : FarCommand → ℕ
+pointer_in (Read pointer count) = pointer
+pointer_in (Write pointer bytes) = pointer
+pointer_in (Fill pointer count byte) = pointer
 
 -- what an access answers
 pub data FarAnswer : Type 0 where
@@ -73,9 +73,3 @@ data_write old selector offset slice = elim (far_fault old selector offset (leng
 -- Write; code can't be written, with bytes or without
 abbrev pub far_write : Handles → ℕ → ℕ → List ℕ → FarAnswer × Handles
 far_write old selector offset slice = if refuses_write old selector then (Fault ReadOnly, old) else data_write old selector offset slice
-
--- one step: the answer that an access is given, and the handles that it leaves
-abbrev pub FarStep : Handles → FarCommand → FarAnswer → Handles → Type 0
-FarStep old (Read pointer count) answer new = Gives (far_read old (selector_in pointer) (offset_in pointer) count) answer new
-FarStep old (Write pointer bytes) answer new = Gives (far_write old (selector_in pointer) (offset_in pointer) bytes) answer new
-FarStep old (Fill pointer count byte) answer new = Gives (far_write old (selector_in pointer) (offset_in pointer) (repeated count byte)) answer new

@@ -2,9 +2,9 @@
 use Rattle.w16_model.specs
 use Rattle.std.specs.Prelude.{◌≡◌, ◌≢◌, ℕ, ◌-◌, ◌<◌, ◌≤◌, ◌⊎◌, Bool, true, false, ◌==◌, MatchBool, take, Option, Some, None}
 use specs.Request.{Allocates, Compacts, eligible_count}
-use specs.Handles.{Handles, AreHandles, handle_of}
+use specs.Handles.{Handles, handle_of}
 use specs.Calls.{GlobalAllocs, GlobalCompacts, IsEmptyFixed, IsTooLong, HasNoSlots, kind_asked, alloc_options, rounded_size}
-use specs.{declared.Kind.Kind, declared.RoomOptions.RoomOptions, Gap.IsHole, Arrangement.IsLongestStretch, Discards.eligible, Discards.blocks_without, Heap.Heap, Heap.IsHeap, Heap.blocks, Law.NoStretch, Law.KeepsOthers}
+use specs.{declared.Kind.Kind, declared.RoomOptions.RoomOptions, Gap.IsHole, Arrangement.IsLongestStretch, Discards.eligible, Discards.blocks_without, Heap.Heap, Heap.IsHeap, Heap.blocks, Law.NoStretch, Law.KeepsOthers, Law.AreHandles}
 
 -- whichever way the others slide once the first j that may be are discarded, no n bytes in a row are free; h isn't counted
 abbrev pub HasNoStretch : Heap → ℕ → Option ℕ → ℕ → Type 0

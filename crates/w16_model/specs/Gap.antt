@@ -1,6 +1,6 @@
 -- Gaps, holes and room, over the blocks of a heap in any order. A block is an object that has bytes, by where it stands.
 use Rattle.std.specs.Prelude.{◌≡◌, ℕ, ◌+◌, ◌-◌, ◌<◌, ◌≤◌, ◌⊎◌, max, min, Bool, true, false, not, ◌&&◌, if◌then◌else◌, nat_le, nat_lt, IsTrue, List, [], ◌∷◌, map, filter, sum_by, All, AllPairs}
-use Rattle.w16_model.specs.{declared.Block.Block, declared.Span.Span, declared.Hold.Hold, declared.Hold.TheVariants.Pinned, declared.Hold.TheVariants.Loose}
+use Rattle.w16_model.specs.{declared.Block.Block, declared.Hold.Hold, declared.Hold.TheVariants.Pinned, declared.Hold.TheVariants.Loose}
 
 -- Pinned: the block of a fixed or a locked object, which keeps its address (GlobalAlloc, GMEM_FIXED; GlobalLock). Any other block is loose.
 abbrev pub holds_still : Hold → Bool
@@ -48,10 +48,6 @@ pub record IsGapOf (test : Block → Bool) (lo hi : ℕ) (xs : List Block) (a b 
   pub clear : IsClear test lo hi xs a b
   pub maximal : (c d : ℕ) → c ≤ a → b ≤ d → IsClear test lo hi xs c d → (c ≡ a) × (d ≡ b)
 
--- a gap: a maximal interval without a pinned byte; what stands in it may slide
-abbrev pub IsGap : ℕ → ℕ → List Block → ℕ → ℕ → Type 0
-IsGap = IsGapOf is_pinned
-
 -- a hole: a maximal interval without any object's byte
 abbrev pub IsHole : ℕ → ℕ → List Block → ℕ → ℕ → Type 0
 IsHole = IsGapOf is_any
@@ -66,17 +62,6 @@ first_from test hi (x ∷ xs) a = if test x && nat_le a x.at then min x.at (firs
 -- where an interval without such blocks may begin: at lo, or behind one of them
 abbrev pub starts : (Block → Bool) → ℕ → List Block → List ℕ
 starts test lo xs = lo ∷ map block_end (filter test xs)
-
--- the intervals that begin at these places, without the empty ones
-abbrev pub spans_from : (Block → Bool) → ℕ → List Block → List ℕ → List Span
-spans_from test hi xs places = filter (λ s. nat_lt s.from s.to) (map (λ a. record { from = a; to = first_from test hi xs a }) places)
-
--- the list of gaps, and that of holes; by address where the blocks are
-abbrev pub gaps : ℕ → ℕ → List Block → List Span
-gaps lo hi xs = spans_from is_pinned hi xs (starts is_pinned lo xs)
-
-abbrev pub holes : ℕ → ℕ → List Block → List Span
-holes lo hi xs = spans_from is_any hi xs (starts is_any lo xs)
 
 abbrev pub begins_in : ℕ → ℕ → Block → Bool
 begins_in a b x = nat_le a x.at && nat_lt x.at b

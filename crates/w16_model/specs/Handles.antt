@@ -1,11 +1,11 @@
 -- Handles: a global heap whose objects are named by handles and reached by selectors.
 use Rattle.w16_model.specs
-use Rattle.std.specs.Prelude.{◌≡◌, ℕ, ◌+◌, ◌-◌, ◌*◌, ◌/◌, ◌%◌, ◌<◌, ◌≤◌, ◌&&◌, ◌==◌, if◌then◌else◌, nat_le, nat_lt, max, min, Bool, true, List, length, is_some, IfSome, option_map, unwrap_or, Option, Some, None}
+use Rattle.std.specs.Prelude.{◌≡◌, ℕ, ◌+◌, ◌-◌, ◌*◌, ◌/◌, ◌%◌, ◌<◌, ◌≤◌, ◌&&◌, ◌==◌, if◌then◌else◌, nat_le, nat_lt, max, min, Bool, is_some, option_map, unwrap_or, Option, Some, None}
 use Rattle.std.specs.{List.find, Ordering.nat_cmp, FinMap.FinMap}
 use specs.declared.Kind.TheVariants.{Fixed, Moveable, Discardable}
-use specs.declared.TheConstants.{FIRST_SLOT, MOST_SLOTS, GRAIN, REACH}
-use specs.Heap.{Heap, IsHeap, empty_heap, object_at, bytes_at}
-use specs.{declared.Kind.Kind, declared.Attributes.Attributes, declared.Owned.Owned}
+use specs.declared.TheConstants.{FIRST_SLOT, REACH}
+use specs.Heap.{Heap, object_at}
+use specs.{declared.Kind.Kind, declared.Attributes.Attributes}
 use Rattle.std.specs.FinMap as finmap
 
 -- An object's id in the heap is its slot, of which there are so many, numbered from the first one on. It has so many slots in a row as its
@@ -16,10 +16,6 @@ pub record Handles : Type 0 where
   pub attributes : FinMap nat_cmp Attributes
   -- the bytes that the last allocation or compaction moved (profile)
   pub moved : ℕ
-
--- the handles over a memory, and with so many slots, in which nothing is allocated
-abbrev pub empty_handles : ℕ → ℕ → Handles
-empty_handles memory slots = record { slots = slots; heap = empty_heap 0 memory GRAIN; attributes = finmap.empty; moved = 0 }
 
 abbrev pub IsSlot : Handles → ℕ → Type 0
 IsSlot handles slot = (FIRST_SLOT ≤ slot) × (slot < FIRST_SLOT + handles.slots)
@@ -96,33 +92,6 @@ selector_in pointer = pointer / 65536
 
 abbrev pub offset_in : ℕ → ℕ
 offset_in pointer = pointer % 65536
-
--- an object that a module owns has as many slots as its size needs, with bytes or without
-abbrev pub IsOwnedRun : Attributes → Type 0
-IsOwnedRun a = IfSome a.owned (λ (o : Owned). a.slots ≡ slots_for o.size)
-
--- an object has a slot at least, all of its slots are there, and none is another's
-abbrev pub IsRun : ℕ → ℕ → Attributes → Type 0
-IsRun slots slot a = (0 < a.slots) × (FIRST_SLOT ≤ slot) × (slot + a.slots ≤ FIRST_SLOT + slots) × IsOwnedRun a
-
-pub record AreRuns (slots : ℕ) (attributes : FinMap nat_cmp Attributes) : Type 0 where
-  pub each : (slot : ℕ) → IfSome (finmap.get attributes slot) (IsRun slots slot)
-  pub apart : (slot other : ℕ) → slot < other → is_some (finmap.get attributes other) ≡ true → slot + slots_at attributes slot ≤ other
-
--- so many slots are as many as an object's bytes need, if it has any
-abbrev pub IsSized : ℕ → Option (List ℕ) → Type 0
-IsSized count bytes = IfSome bytes (λ b. count ≡ slots_for (length b))
-
--- what always holds of them: the heap is one, over memory from 0; the slots are few enough for their selectors to be words; each object has
--- its attributes, and a run of slots, which is no other's; and one with bytes has as many as they need
-pub record AreHandles (handles : Handles) : Type 0 where
-  pub heap : IsHeap handles.heap
-  pub low : handles.heap.lo ≡ 0
-  pub grain : handles.heap.grain ≡ GRAIN
-  pub few : handles.slots ≤ MOST_SLOTS
-  pub runs : AreRuns handles.slots handles.attributes
-  pub attributed : (slot : ℕ) → finmap.contains_key handles.attributes slot ≡ is_some (object_at handles.heap slot)
-  pub sized : (slot : ℕ) → IsSized (slots_at handles.attributes slot) (bytes_at handles.heap slot)
 
 -- an answer and what it leaves are this outcome
 abbrev pub Gives : {A : Type 0} → A × Handles → A → Handles → Type 0

@@ -1,7 +1,7 @@
 -- A heap: objects by id, their addresses apart from what they contain, and the order of use. One text serves the global heap, of grain 32,
 -- and a local heap inside a segment, of grain 4.
 use Rattle.w16_model.specs
-use Rattle.std.specs.Prelude.{◌≡◌, ℕ, ◌*◌, ◌<◌, ◌≤◌, Bool, true, false, ◌&&◌, ◌||◌, if◌then◌else◌, nat_lt, IsTrue, IfSome, List, [], length, All, AllPairs, Option, Some, None, option_map, unwrap_or, is_some}
+use Rattle.std.specs.Prelude.{◌≡◌, ℕ, ◌*◌, ◌<◌, ◌≤◌, Bool, true, false, ◌&&◌, ◌||◌, if◌then◌else◌, nat_lt, IsTrue, IfSome, List, length, All, AllPairs, Option, Some, None, option_map, unwrap_or, is_some}
 use Rattle.std.specs.{List.filter_map, Ordering.nat_cmp, FinMap.FinMap}
 use specs.declared.Hold.TheVariants.{Pinned, Loose}
 use specs.declared.Kind.TheVariants.{Fixed, Moveable, Discardable}
@@ -23,10 +23,6 @@ pub record Heap : Type 0 where
   pub places : FinMap nat_cmp ℕ
   -- the discardable objects with bytes, oldest first
   pub order : List ℕ
-
--- the heap over [lo, hi) that has no object
-abbrev pub empty_heap : ℕ → ℕ → ℕ → Heap
-empty_heap lo hi grain = record { lo = lo; hi = hi; grain = grain; objects = finmap.empty; places = finmap.empty; order = [] }
 
 abbrev pub is_fixed : Kind → Bool
 is_fixed Fixed = true

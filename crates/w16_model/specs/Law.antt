@@ -1,19 +1,95 @@
--- The laws that show the definitions to be the right ones. Each is the contract of a function of the module `laws`.
+-- What holds of all handles, and the laws that show the definitions to be the right ones. Each law is the contract of a function of the module `laws`.
 use Rattle.w16_model.specs
-use Rattle.std.specs.Prelude.{◌≡◌, ◌≢◌, ℕ, ◌+◌, ◌-◌, ◌*◌, ◌<◌, ◌≤◌, ◌↔◌, min, Bool, true, false, IfSome, IsSomeAnd, List, take, map, length, All, AllPairs, Contains, Option, Some, None, is_some}
+use Rattle.std.specs.Prelude.{◌≡◌, ◌≢◌, ℕ, ◌+◌, ◌-◌, ◌*◌, ◌<◌, ◌≤◌, ◌↔◌, min, Bool, true, false, IfSome, IsSomeAnd, List, take, map, length, All, AllPairs, Contains, Option, Some, None, is_some, [], ◌⊎◌, MatchOption, slice_get, nat_lt, filter}
 use specs.declared.Kind.TheVariants.{Discardable}
 use specs.declared.TheConstants.{FIRST_SLOT, MOST_SLOTS, GRAIN, REACH, LARGEST_SIZE, GMEM_MOVEABLE, GMEM_NOCOMPACT, GMEM_NODISCARD, GMEM_ZEROINIT, GMEM_MODIFY, GMEM_DISCARDABLE, GMEM_DDESHARE, GMEM_DISCARDED}
-use specs.Gap.{is_pinned, is_any, room, longest_hole, hole_after, gaps, holes, loose_bytes, block_end, IsGap, IsHole, IsGapOf, ArePlaced, IsLaid}
-use specs.Arrangement.{IsArrangement, IsFreeStretch, IsLongestStretch}
+use specs.Gap.{is_pinned, is_any, room, longest_hole, hole_after, loose_bytes, block_end, IsHole, IsGapOf, ArePlaced, IsLaid, first_from, starts}
+use specs.Arrangement.{IsArrangement, IsFreeStretch, IsGap, IsLongestStretch}
 use specs.Discards.{eligible, is_member, blocks_without, needed, room_for, snapshot}
 use specs.Heap.{Heap, Object, IsHeap, blocks, object_at, bytes_at, is_pinned_object}
-use specs.Request.{Settles, discarded, stays_for, snapshot_of}
+use specs.Request.{Settles, discarded, stays_for, snapshot_of, Allocates, Reallocates}
 use specs.Table.{Table, IsTable, IsSound, heap_in, IsSameOutside}
-use specs.Handles.{Handles, AreHandles, dword_of, empty_handles, slots_at, owner_of, reached, slot_of_handle, part_of_selector, slot_of_selector, handle_of, selector_of}
+use specs.Handles.{Handles, dword_of, slots_at, owner_of, reached, slot_of_handle, part_of_selector, slot_of_selector, handle_of, selector_of, slots_for, IsFreeSlot, Gives, selector_in, offset_in}
 use specs.Calls.{HandleCommand, Answer, HandleStep, IsRefusedAlloc, AnswersAlloc}
 use specs.Calls.HandleCommand.{GetSelectorBase, GetSelectorLimit, GlobalHandle}
-use specs.{declared.Block.Block, declared.Span.Span, declared.Kind.Kind, declared.Item.Item, declared.RoomOptions.RoomOptions, declared.Hold.TheVariants.Pinned, Changes.with_ordered, Walk.IsWalk, Calls.Answer.Dword, Far.FarCommand, Far.FarAnswer, Far.IsFarCommand, Far.FarStep}
+use specs.Far.{FarCommand, FarAnswer, far_read, far_write}
+use specs.Far.FarCommand.{Fill, Read, Write}
+use specs.{declared.Block.Block, declared.Span.Span, declared.Kind.Kind, declared.Item.Item, declared.RoomOptions.RoomOptions, declared.Hold.TheVariants.Pinned, Changes.with_ordered, Changes.removed}
+use specs.{Walk.IsWalk, Walk.IsItem, Calls.Answer.Dword, declared.Attributes.Attributes, declared.Owned.Owned, OneObject.Enters, Owned.owned_at, Owned.revival_options, Bytes.repeated, Ends.ending}
+use specs.{Ends.is_answered}
+use Rattle.std.specs.{Ordering.nat_cmp, FinMap.FinMap}
 use Rattle.std.specs.FinMap as finmap
+
+-- Handles.
+
+-- the heap over [lo, hi) that has no object
+abbrev pub empty_heap : ℕ → ℕ → ℕ → Heap
+empty_heap lo hi grain = record { lo = lo; hi = hi; grain = grain; objects = finmap.empty; places = finmap.empty; order = [] }
+
+-- the handles over a memory, and with so many slots, in which nothing is allocated
+abbrev pub empty_handles : ℕ → ℕ → Handles
+empty_handles memory slots = record { slots = slots; heap = empty_heap 0 memory GRAIN; attributes = finmap.empty; moved = 0 }
+
+-- an object that a module owns has as many slots as its size needs, with bytes or without
+abbrev pub IsOwnedRun : Attributes → Type 0
+IsOwnedRun a = IfSome a.owned (λ (o : Owned). a.slots ≡ slots_for o.size)
+
+-- an object has a slot at least, all of its slots are there, and none is another's
+abbrev pub IsRun : ℕ → ℕ → Attributes → Type 0
+IsRun slots slot a = (0 < a.slots) × (FIRST_SLOT ≤ slot) × (slot + a.slots ≤ FIRST_SLOT + slots) × IsOwnedRun a
+
+pub record AreRuns (slots : ℕ) (attributes : FinMap nat_cmp Attributes) : Type 0 where
+  pub each : (slot : ℕ) → IfSome (finmap.get attributes slot) (IsRun slots slot)
+  pub apart : (slot other : ℕ) → slot < other → is_some (finmap.get attributes other) ≡ true → slot + slots_at attributes slot ≤ other
+
+-- so many slots are as many as an object's bytes need, if it has any
+abbrev pub IsSized : ℕ → Option (List ℕ) → Type 0
+IsSized count bytes = IfSome bytes (λ b. count ≡ slots_for (length b))
+
+-- what always holds of handles: the heap is one, over memory from 0; the slots are few enough for their selectors to be words; each object
+-- has its attributes, and a run of slots, which is no other's; and one with bytes has as many as they need
+pub record AreHandles (handles : Handles) : Type 0 where
+  pub heap : IsHeap handles.heap
+  pub low : handles.heap.lo ≡ 0
+  pub grain : handles.heap.grain ≡ GRAIN
+  pub few : handles.slots ≤ MOST_SLOTS
+  pub runs : AreRuns handles.slots handles.attributes
+  pub attributed : (slot : ℕ) → finmap.contains_key handles.attributes slot ≡ is_some (object_at handles.heap slot)
+  pub sized : (slot : ℕ) → IsSized (slots_at handles.attributes slot) (bytes_at handles.heap slot)
+
+-- an object goes, locked or not (a module that goes takes its objects with it)
+abbrev pub after_release : Heap → ℕ → Heap
+after_release heap id = removed heap id
+
+-- A new object without bytes gets a free slot, and a module owns it. One slot is enough for what a module owns.
+pub record TakesOwned (old : Handles) (kind : Kind) (owned : Owned) (handle : ℕ) (new : Handles) : Type 0 where
+  pub slot : ℕ
+  pub free : IsFreeSlot old slot
+  pub named : handle ≡ handle_of kind slot
+  pub entered : Enters old.heap slot kind new.heap
+  pub rest : new ≡ record old { heap = new.heap; attributes = finmap.insert old.attributes slot (record { shared = false; owned = Some owned; slots = 1 }) }
+
+-- An owned object without bytes gets as many as its owner's file says, of any values, by a request for room as of an allocation with no flags;
+-- or there is no room for them, and nothing changes. The number of bytes moved stays.
+pub record Revives (old : Handles) (slot : ℕ) (answered : Bool) (new : Handles) : Type 0 where
+  pub owned : IsSomeAnd (owned_at old slot) (λ owned. IsSomeAnd (object_at old.heap slot) (λ o. Allocates old.heap slot owned.size o.kind o.locks revival_options answered new.heap))
+  pub rest : new ≡ record old { heap = new.heap }
+
+-- the handles without an object, locked or not
+abbrev pub without_slot : Handles → ℕ → Handles
+without_slot handles slot = record handles { heap = removed handles.heap slot; attributes = finmap.remove handles.attributes slot }
+
+-- what an access writes are bytes
+abbrev pub IsFarCommand : FarCommand → Type 0
+IsFarCommand (Read pointer count) = Unit {0}
+IsFarCommand (Write pointer bytes) = All (λ b. b < 256) bytes
+IsFarCommand (Fill pointer count byte) = byte < 256
+
+-- one step of a far access: the answer that it is given, and the handles that it leaves
+abbrev pub FarStep : Handles → FarCommand → FarAnswer → Handles → Type 0
+FarStep old (Read pointer count) answer new = Gives (far_read old (selector_in pointer) (offset_in pointer) count) answer new
+FarStep old (Write pointer bytes) answer new = Gives (far_write old (selector_in pointer) (offset_in pointer) bytes) answer new
+FarStep old (Fill pointer count byte) answer new = Gives (far_write old (selector_in pointer) (offset_in pointer) (repeated count byte)) answer new
 
 -- The figures.
 
@@ -37,6 +113,17 @@ pub record AreFlags : Type 0 where
   pub discarded : GMEM_DISCARDED ≡ 16384
 
 -- Gaps and holes.
+
+-- the intervals that begin at these places, without the empty ones
+abbrev pub spans_from : (Block → Bool) → ℕ → List Block → List ℕ → List Span
+spans_from test hi xs places = filter (λ s. nat_lt s.from s.to) (map (λ a. record { from = a; to = first_from test hi xs a }) places)
+
+-- the list of gaps, and that of holes; by address where the blocks are
+abbrev pub gaps : ℕ → ℕ → List Block → List Span
+gaps lo hi xs = spans_from is_pinned hi xs (starts is_pinned lo xs)
+
+abbrev pub holes : ℕ → ℕ → List Block → List Span
+holes lo hi xs = spans_from is_any hi xs (starts is_any lo xs)
 
 -- the list has each maximal interval without a block that passes the test, and nothing else
 pub record AreAllOf (test : Block → Bool) (lo hi : ℕ) (xs : List Block) (spans : List Span) : Type 0 where
@@ -148,7 +235,41 @@ AddressLaw = (old new : Heap) → IsHeap old → (k : ℕ)
 abbrev pub OutcomeLaw : Type 0
 OutcomeLaw = (old new : Handles) (flags size handle : ℕ) → AreHandles old → AnswersAlloc old flags size handle new → IsRefusedAlloc old flags size → ⊥
 
+-- the least end at which the request is answered, not before the present one; it is answered at every later end too
+pub record IsLeastEnd (heap : Heap) (id n : ℕ) (options : RoomOptions) (end : ℕ) : Type 0 where
+  pub later : heap.hi ≤ end
+  pub answered : (e : ℕ) → end ≤ e → is_answered (ending heap e) id n options ≡ true
+  pub least : (e : ℕ) → heap.hi ≤ e → e < end → is_answered (ending heap e) id n options ≡ false
+
+-- there is no such end up to a place
+abbrev pub HasNoEnd : ℕ → Heap → ℕ → ℕ → RoomOptions → Type 0
+HasNoEnd last heap id n options = (e : ℕ) → heap.hi ≤ e → e ≤ last → is_answered (ending heap e) id n options ≡ false
+
+-- an allocation and a reallocation are answered just where this says so
+abbrev pub AnswerLaw : Type 0
+AnswerLaw = (old new : Heap) (id n : ℕ) (options : RoomOptions) (answered : Bool)
+    → ((kind : Kind) (locks : ℕ) → object_at old id ≡ None → Allocates old id n kind locks options answered new → answered ≡ is_answered old id n options)
+    × (Reallocates old id n options answered new → answered ≡ is_answered old id n options)
+
 -- Walks.
+
+-- the first item that begins at an address or above it, if there is one
+abbrev pub IsFirstItem : (Kind → ℕ → ℕ) → Heap → ℕ → Option Item → Type 0
+IsFirstItem name heap from found = MatchOption found
+    ((other : Item) → IsItem name heap other → other.at < from)
+    (λ item. IsItem name heap item × (from ≤ item.at) × ((other : Item) → IsItem name heap other → from ≤ other.at → (other ≡ item) ⊎ (item.at < other.at)))
+
+-- the i-th item of the walk, from 0 on, if it has so many
+abbrev pub IsItemAt : (Kind → ℕ → ℕ) → Heap → ℕ → Option Item → Type 0
+IsItemAt name heap i found = (items : List Item) → IsWalk name heap items → found ≡ slice_get items i
+
+-- how many items the walk has
+abbrev pub IsItemCount : (Kind → ℕ → ℕ) → Heap → ℕ → Type 0
+IsItemCount name heap count = (items : List Item) → IsWalk name heap items → count ≡ length items
+
+-- an object's name in a heap of its own: its id
+abbrev pub by_its_id : Kind → ℕ → ℕ
+by_its_id kind id = id
 
 -- a heap has a walk, and no other, however it names its objects
 pub record HasOneWalk (name : Kind → ℕ → ℕ) (heap : Heap) : Type 0 where

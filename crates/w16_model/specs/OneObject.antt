@@ -35,10 +35,6 @@ after_free heap id = elim (object_at heap id) [
   | Some o ↦ if nat_lt 0 o.locks then Err refusals.Locked else Ok (removed heap id)
 ]
 
--- an object goes, locked or not (a module that goes takes its objects with it)
-abbrev pub after_release : Heap → ℕ → Heap
-after_release heap id = removed heap id
-
 -- a discardable object that isn't locked gives up its bytes, if it has any (GlobalDiscard)
 abbrev pub after_discard : Heap → ℕ → Result Heap Refusal
 after_discard heap id = elim (object_at heap id) [

@@ -7,12 +7,12 @@ use specs.Heap.{Heap, Object, object_at, is_fixed, is_discardable}
 use specs.Changes.{with_object, with_ordered, with_newest, newest, oldest, touched, absent}
 use specs.Request.{IsNew, Settles, Reallocates, discarded, stays_for, moved_bytes}
 use specs.OneObject.{Enters, refused_order, after_modify}
-use specs.Handles.{Handles, AreHandles, IsFreeRun, slots_for, slot_of_handle, handle_of}
+use specs.Handles.{Handles, IsFreeRun, slots_for, slot_of_handle, handle_of}
 use specs.Calls.{HandleCommand, Answer, HandleStep, has_flag, kind_asked, alloc_options, rounded_size}
 use specs.Calls.Answer.{Word, Dword}
 use specs.Calls.HandleCommand.{GlobalAlloc, GlobalFree, GlobalLock, GlobalUnlock, GlobalCompact, GlobalLRUNewest, GlobalLRUOldest}
 use specs.Resizes.{GlobalReAllocs, GetsRun, rehoused, with_run, realloc_options, kind_modified}
-use specs.{declared.Attributes.Attributes, Gap.is_pinned, Owned.owns, Owned.without_slot, Reallocation.ChangesKind}
+use specs.{declared.Attributes.Attributes, Gap.is_pinned, Owned.owns, Law.without_slot, Reallocation.ChangesKind, Law.AreHandles}
 use Rattle.std.specs.FinMap as finmap
 
 -- A call on handles: GlobalReAlloc, of which GlobalDiscard is a case, or any other.

@@ -3,7 +3,8 @@
 use Rattle.w16_model.specs
 use Rattle.std.specs.Prelude.{◌≡◌, ◌≢◌, ℕ, ◌+◌, ◌-◌, ◌<◌, ◌≤◌, ◌⊎◌, Bool, true, false, not, ◌&&◌, ◌||◌, if◌then◌else◌, IsTrue, IfOk, IfSome, IsSomeAnd, List, [], ◌∷◌, ◌++◌, length, take, drop, filter, map, All, AllPairs, Option, Some, Ok, Err, is_some, unwrap_or}
 use specs.declared.Hold.TheVariants.{Loose}
-use specs.Gap.{is_pinned, is_loose, is_any, begins_in, Misses, ArePlaced, IsClear, IsGap}
+use specs.Gap.{is_pinned, is_loose, is_any, begins_in, Misses, ArePlaced, IsClear}
+use specs.Arrangement.{IsGap}
 use specs.Discards.{eligible, is_member, is_about, room_for, snapshot}
 use specs.Heap.{Heap, Object, IsHeap, blocks, object_at, size_of, is_fixed, is_discardable, is_in_order, is_pinned_object}
 use specs.{declared.Block.Block, declared.Kind.Kind, declared.RoomOptions.RoomOptions, Bytes.repeated, Changes.without, Request.Reallocates, OneObject.after_modify, OneObject.after_discard, Law.KeepsOthers, Law.KeepsAddresses, Law.StandsStill, Fewest.DiscardsFewest, Fewest.LacksRoom}

@@ -1,14 +1,13 @@
 -- GlobalReAlloc and GlobalDiscard on handles: the cases in their order, and what each answers and leaves.
 use Rattle.w16_model.specs
-use Rattle.std.specs.Prelude.{◌≡◌, ◌≢◌, ℕ, ◌+◌, ◌-◌, ◌/◌, ◌<◌, ◌≤◌, ◌⊎◌, Bool, true, false, not, ◌&&◌, ◌||◌, ◌==◌, if◌then◌else◌, nat_lt, map, MatchBool, MatchOption, IsSomeAnd, List, Some, None, Result, Ok, Err}
+use Rattle.std.specs.Prelude.{◌≡◌, ℕ, ◌+◌, ◌-◌, ◌⊎◌, Bool, true, not, ◌&&◌, ◌||◌, ◌==◌, if◌then◌else◌, nat_lt, map, MatchBool, MatchOption, IsSomeAnd, Some, None, Result, Ok, Err}
 use Rattle.std.specs.{Ordering.nat_cmp, FinMap.FinMap}
 use specs.declared.Kind.TheVariants.{Moveable, Discardable}
-use specs.declared.TheConstants.{REACH, LARGEST_SIZE, GMEM_MOVEABLE, GMEM_MODIFY, GMEM_DISCARDABLE}
-use specs.Heap.{Heap, Object, object_at, bytes_at, size_of, is_fixed}
-use specs.Handles.{Handles, AreHandles, IsFreeRun, HasNoRun, slots_at, slots_for, handle_of, slot_of_handle}
-use specs.Reallocation.{LacksPlace, ReallocatesFewest, without_all}
-use specs.Calls.{has_flag, is_shared, rounded_size, alloc_options}
-use specs.{declared.Attributes.Attributes, declared.Kind.Kind, declared.Refusal.Refusal, declared.RoomOptions.RoomOptions, Request.Reallocates, Request.moved_bytes, OneObject.after_modify, OneObject.after_discard, Owned.owns, Owned.is_owned, Discards.is_member}
+use specs.declared.TheConstants.{LARGEST_SIZE, GMEM_MOVEABLE, GMEM_MODIFY, GMEM_DISCARDABLE}
+use specs.Heap.{Heap, Object, object_at, is_fixed}
+use specs.Handles.{Handles, IsFreeRun, HasNoRun, slots_at, slots_for, handle_of, slot_of_handle}
+use specs.Calls.{has_flag, rounded_size, alloc_options}
+use specs.{declared.Attributes.Attributes, declared.Kind.Kind, declared.Refusal.Refusal, declared.RoomOptions.RoomOptions, Request.Reallocates, Request.moved_bytes, OneObject.after_modify, OneObject.after_discard, Owned.owns}
 use Rattle.std.specs.FinMap as finmap
 
 -- as an allocation's flags; with GMEM_MOVEABLE the object itself may be moved too, fixed or locked
@@ -118,52 +117,3 @@ GlobalReAllocs old handle size flags answer new = MatchBool (owns old handle) (I
 -- GlobalDiscard is a GlobalReAlloc of size 0
 abbrev pub GlobalDiscards : Handles → ℕ → ℕ → Handles → Type 0
 GlobalDiscards old handle answer new = GlobalReAllocs old handle 0 GMEM_MOVEABLE answer new
-
--- Fewest discards, where an object's handle and a size are given: an answered one has discarded as few as it can; a refused one has changed
--- nothing, and the object would get more bytes and lacks a place for them, or lacks slots.
-abbrev pub ReallocFewest : Handles → ℕ → ℕ → ℕ → ℕ → Handles → Type 0
-ReallocFewest old handle size flags answer new = (slot : ℕ) → slot_of_handle old handle ≡ Some slot → is_owned old slot ≡ false → has_flag flags GMEM_MODIFY ≡ false → 0 < size → size ≤ LARGEST_SIZE
-    → IsSomeAnd (object_at old.heap slot) (λ o.
-    (answer ≢ 0 → (first : ℕ) × (heap : Heap) × (answer ≡ handle_of o.kind first) × (new.heap ≡ rehoused heap slot first) × ReallocatesFewest old.heap slot (rounded_size size) o (realloc_options flags) true heap)
-    × (answer ≡ 0 → (LacksRun old slot o (realloc_options flags) (slots_for (rounded_size size))
-    ⊎ ((size_of o < rounded_size size) × LacksPlace old.heap slot (rounded_size size) o (realloc_options flags))) × (new.heap ≡ old.heap)))
-
--- The laws.
-
--- it keeps what holds of handles
-abbrev pub ResizeLaw : Type 0
-ResizeLaw = (old new : Handles) (handle size flags answer : ℕ) → AreHandles old → GlobalReAllocs old handle size flags answer new → AreHandles new
-
--- where it is NULL the heap is the same
-abbrev pub NullLaw : Type 0
-NullLaw = (old new : Handles) (handle size flags : ℕ) → AreHandles old → GlobalReAllocs old handle size flags 0 new → new.heap ≡ old.heap
-
--- one that asks for a size discards as few as it can, and is NULL only where the object lacks slots, or would get more bytes and lacks a
--- place for them
-abbrev pub ResizeFewestLaw : Type 0
-ResizeFewestLaw = (old new : Handles) (handle size flags answer : ℕ) → AreHandles old → GlobalReAllocs old handle size flags answer new → ReallocFewest old handle size flags answer new
-
--- one whose bytes a single selector reaches then keeps its handle
-abbrev pub OneSlotLaw : Type 0
-OneSlotLaw = (old new : Handles) (handle size flags answer : ℕ) → AreHandles old → GlobalReAllocs old handle size flags answer new → rounded_size size ≤ REACH → answer ≢ 0 → answer ≡ handle
-
--- the old handle is bad once there is another
-abbrev pub OldHandleLaw : Type 0
-OldHandleLaw = (old new : Handles) (handle size flags answer : ℕ) → AreHandles old → GlobalReAllocs old handle size flags answer new → answer ≢ 0 → answer ≢ handle → slot_of_handle new handle ≡ None
-
--- an object keeps its handle where its own slots and those directly after them are enough
-abbrev pub ExtendedLaw : Type 0
-ExtendedLaw = (old new : Handles) (handle size flags answer slot : ℕ) → AreHandles old → GlobalReAllocs old handle size flags answer new → slot_of_handle old handle ≡ Some slot
-    → CanExtend old slot (slots_for (rounded_size size)) → answer ≢ 0 → answer ≡ handle
-
--- at another handle it is shared with other tasks as it was
-abbrev pub SharedLaw : Type 0
-SharedLaw = (old new : Handles) (handle size flags answer slot : ℕ) → AreHandles old → GlobalReAllocs old handle size flags answer new → slot_of_handle old handle ≡ Some slot
-    → answer ≢ 0 → answer ≢ handle → is_shared new (answer / 8) ≡ is_shared old slot
-
--- and one in the order of use keeps its place there: the order has its new slot where the old one stood, and has lost what was discarded
-abbrev pub PlaceLaw : Type 0
-PlaceLaw = (old new : Handles) (handle size flags answer slot : ℕ) → AreHandles old → GlobalReAllocs old handle size flags answer new → slot_of_handle old handle ≡ Some slot
-    → answer ≢ 0 → answer ≢ handle → is_member slot old.heap.order ≡ true
-    → (gone : List ℕ) × ((q : ℕ) → is_member q gone ≡ true → bytes_at new.heap q ≡ None)
-    × (new.heap.order ≡ map (λ q. if q == slot then answer / 8 else q) (without_all gone old.heap.order))

@@ -29,10 +29,10 @@ ghost use Rattle.w16_model.specs.Law.{
 };
 ghost use Rattle.w16_model.specs.Fewest.{AllocationLaw, CompactionLaw, GlobalAllocLaw, GlobalCompactLaw};
 ghost use Rattle.w16_model.specs.Reallocation.{HeapLaw, KindHeapLaw, DiscardHeapLaw, RestLaw, FewestLaw, MovesLaw, OneOutcomeLaw, KindLaw, LeftOutLaw};
-ghost use Rattle.w16_model.specs.CallLaws.{ContentsLaw, SlotsLaw, MovedLaw, BystandersLaw, AttributesLaw, PinnedStayLaw, StillLaw, UseLaw, NewObjectLaw, UnorderedLaw, OthersOrderLaw, FarEffectLaw, ReadBackLaw};
+ghost use Rattle.w16_model.specs.CallLaws.{ContentsLaw, SlotsLaw, MovedLaw, BystandersLaw, AttributesLaw, PinnedStayLaw, StillLaw, UseLaw, NewObjectLaw, UnorderedLaw, OthersOrderLaw, FarEffectLaw, ReadBackLaw, ResizeLaw, NullLaw, ResizeFewestLaw, OneSlotLaw};
 ghost use Rattle.w16_model.specs.Effects.{LockLaw, UnlockLaw, FreeLaw, ModifyLaw, DiscardLaw, SizeLaw, AnsweredLaw};
 ghost use Rattle.w16_model.specs.Outcomes.{CallOutcomesLaw};
-ghost use Rattle.w16_model.specs.Resizes.{ResizeLaw, NullLaw, ResizeFewestLaw, OneSlotLaw, OldHandleLaw, ExtendedLaw, SharedLaw, PlaceLaw};
+ghost use Rattle.w16_model.specs.CallLaws.{ExtendedLaw, OldHandleLaw, PlaceLaw, SharedLaw};
 
 /// The figures of the profile and the flags of the manual are these numbers. Definitions and code share the constants, so only this law
 /// would see a wrong one.

@@ -28,7 +28,8 @@ pub use Rattle.w16_loading.proofs.Fewest.{fill_fewest}
 pub use Rattle.w16_loading.proofs.Common.{MatchBool, absent, after, bytes_at, eqb-true, outcome, owned_in, owns}
 pub use Rattle.w16_loading.proofs.ShrunkWorlds.{value_gone, value_left}
 pub use Rattle.w16_loading.proofs.Stepping.{freed_by, resource_load, with_count}
-pub use Rattle.w16_loading.specs.Answers.{FetchesFrom, FewestOver, FillsFewest, told}
+pub use Rattle.w16_loading.specs.Answers.{FetchesFrom, told}
+pub use Rattle.w16_loading.specs.Fewest.{FewestOver, FillsFewest}
 pub use Rattle.w16_loading.specs.Families.LoadingCommand.{OfResources}
 pub use Rattle.w16_loading.specs.Families.ResourceCommand.{LoadResource, LockResource}
 pub use Rattle.w16_loading.specs.Fetch.{Fetching, IsImage}

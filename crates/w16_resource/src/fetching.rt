@@ -6,7 +6,7 @@ ghost use Rattle.w16_store.specs.Later.{IsLater, RoseIf};
 ghost use Rattle.w16_ne.specs.Resources.{entry_of};
 ghost use Rattle.w16_global.specs.Owned.{LacksBytes};
 ghost use Rattle.w16_loading.specs.declared.FetchFault.TheVariants.{Store as store_fails};
-ghost use Rattle.w16_loading.specs.Answers.{FetchesFrom, FillsFewest, told};
+ghost use Rattle.w16_loading.specs.{Answers.FetchesFrom, Answers.told, Fewest.FillsFewest};
 ghost use Rattle.w16_loading.specs.Fill.{is_of_read};
 ghost use Rattle.w16_loading.specs.Modules.{LoadingWorld};
 ghost use Rattle.w16_loading.specs.Resource.{resource_at};

@@ -3,7 +3,7 @@ ghost use Rattle.std.specs.Prelude.{◌≡◌, ◌≤◌, ◌<◌, true, false, 
 ghost use Rattle.w16_store.specs.Later.{IsLater, RoseIf};
 ghost use Rattle.w16_model.specs.Calls.{rounded_size};
 ghost use Rattle.w16_ne.specs.Resources.{Label, entry_of};
-ghost use Rattle.w16_loading.specs.Answers.{FewestOver};
+ghost use Rattle.w16_loading.specs.Fewest.{FewestOver};
 ghost use Rattle.w16_loading.specs.Families.LoadingCommand.{OfResources};
 ghost use Rattle.w16_loading.specs.Families.ResourceCommand.{LoadResource};
 ghost use Rattle.w16_loading.specs.File as file;

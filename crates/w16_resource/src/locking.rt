@@ -1,7 +1,7 @@
 //! Locks of resources, which fetch those that have no bytes.
 ghost use Rattle.std.specs.Prelude.{◌≡◌, ◌<◌, ℕ, true, Some, option_map, IfSome, IfErr};
 ghost use Rattle.w16_store.specs.Later.{IsLater, RoseIf};
-ghost use Rattle.w16_loading.specs.Answers.{FewestOver};
+ghost use Rattle.w16_loading.specs.Fewest.{FewestOver};
 ghost use Rattle.w16_loading.specs.Families.LoadingCommand.{OfResources};
 ghost use Rattle.w16_loading.specs.Families.ResourceCommand.{LockResource};
 ghost use Rattle.w16_loading.specs.Modules.{LoadingWorld};

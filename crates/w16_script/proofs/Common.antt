@@ -27,7 +27,7 @@ pub use Rattle.w16_global.proofs.Common.{cut_on}
 pub use Rattle.w16_kernel.proofs.Common.{Command, Event, command_of, common_steps, promised_append, promised_none, reply_of, run_append, ◌&&◌}
 pub use Rattle.w16_loading.proofs.Common.{IsTrue, MatchOption, count_by, if◌then◌else◌, list_all, nat_lt, slice_index, ◌==◌}
 pub use Rattle.w16_loading.specs.File.{Label}
-pub use Rattle.w16_machine.specs.World.{IsWorldWalk}
+pub use Rattle.w16_machine.specs.Law.{IsWorldWalk}
 pub use Rattle.w16_model.proofs.Common.{IsFirstItem, IsItem, cases_lt, nat_tests}
 pub use Rattle.w16_model.proofs.Cuts.{IsCut, Next, all_done, cut_more, cut_none, done_more, done_none, next}
 pub use Rattle.w16_model.specs.declared.Item.{Item}

@@ -2,7 +2,7 @@
 use Rattle.std.specs.Prelude.{◌≡◌, ℕ, Bool, not, List, [], ◌∷◌, ◌++◌, Option}
 use Rattle.std.specs.Io.KnownBytes.{Appends}
 use Rattle.w16_model.specs.declared.Item.{Item}
-use Rattle.w16_machine.specs.{World.IsWorldWalk, World.World, Machine.Event, Machine.Steps, Machine.Run}
+use Rattle.w16_machine.specs.{Law.IsWorldWalk, World.World, Machine.Event, Machine.Steps, Machine.Run}
 use Rattle.w16_writes.specs.Promises.{Promises}
 use Rattle.w16_script.specs.{Registers.stored_all, State.State, Words.words_of, Grammar.Said, Grammar.Reads, Grammar.is_silent, Grammar.target_of, Printed.reply_text, Printed.walk_text, Printed.error_text}
 use Rattle.w16_loading.specs.Replies as replies

@@ -2,7 +2,7 @@
 ghost use Rattle.std.specs.Prelude.{◌≡◌, ◌^◌, ◌<◌, ◌≤◌, ◌++◌, List, length, OnOk, OnErr, IfOk, IfSome, Some};
 ghost use Rattle.std.specs.Io.KnownBytes.{Appends};
 ghost use Rattle.arrayvec.specs.ArrayVec.{array_vec_len};
-ghost use Rattle.w16_machine.specs.World.{IsWorldWalk};
+ghost use Rattle.w16_machine.specs.Law.{IsWorldWalk};
 ghost use Rattle.w16_script.specs.Written.{AppendsFront};
 ghost use Rattle.w16_script.specs.Printed.{kind_text, owner_text, item_text, walk_text};
 

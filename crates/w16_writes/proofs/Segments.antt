@@ -6,7 +6,7 @@ use Rattle.w16_loading.proofs.{Cases.access_cases, Cases.lock_cases, CallsKept.a
 use Rattle.w16_model.proofs.Common.{slice_get, length-take, Done, FarEffect, IsWritten, Reaches, next_slot, Part, part_of_selector, Word}
 use Rattle.w16_model.proofs.FarLaws.{far_effect_law}
 use Rattle.std.proofs.lemmas.Option.{slice_get_within}
-use Rattle.w16_model.specs.Far.{FarStep as HandlesFarStep}
+use Rattle.w16_model.specs.Law.{FarStep as HandlesFarStep}
 use Rattle.w16_loading.specs.Answers.{StepOver}
 use Rattle.w16_machine.proofs.Common.{Bytes, Fault, Read, FetchFault, Answer, Format, bystanders_law, OfLoading}
 use Rattle.w16_writes.specs.LastWrite.{Access, byte_in, read, slot_after_step, written}

@@ -3,8 +3,8 @@ use Rattle.std.specs.Prelude.{◌≡◌, ℕ, ◌+◌, ◌*◌, Bool, true, fals
 use Rattle.w16_model.specs.Far.FarCommand.{Read, Write, Fill}
 use Rattle.w16_model.specs.{Bytes.repeated, declared.TheConstants.REACH, CallLaws.next_slot, Handles.Handles, Handles.part_of_selector, Handles.selector_in, Handles.offset_in, Heap.bytes_at, Table.Table}
 use Rattle.w16_loading.specs.{Bystanders.call_of, Families.LoadingCommand.OfFar, Families.LoadingCommand.OfResizes, File.Format, Replies.Reply, Replies.answer_in, Replies.Reply.Bytes, Replies.Reply.Done}
-use Rattle.w16_machine.specs.Machine.{Command, EachStep, Event, IsCommand, Run, Step}
-use Rattle.w16_machine.specs.{Law.IsWorld, Local.segment_bytes, Local.heap_of, Local.local_in, Machine.Command.OfLoading, World.World}
+use Rattle.w16_machine.specs.Machine.{Command, Event, Run, Step}
+use Rattle.w16_machine.specs.{Law.IsWorld, Local.segment_bytes, Local.heap_of, Local.local_in, Machine.Command.OfLoading, World.World, Law.EachStep, Law.IsCommand}
 use Rattle.std.specs.FinMap as finmap
 
 -- A position is an offset in an object: in that of a slot, or in that of an entry of the local heap in the slot's object.

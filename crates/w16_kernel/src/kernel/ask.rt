@@ -1,6 +1,6 @@
 //! Calls that need no room.
 ghost use Rattle.std.specs.Prelude.{◌≡◌, [], ◌∷◌, IfOk, OnErr};
-ghost use Rattle.w16_machine.specs.Machine.{IsSame};
+ghost use Rattle.w16_machine.specs.Law.{IsSame};
 ghost use Rattle.w16_writes.specs.Promises.{Promises};
 ghost use Rattle.w16_kernel.specs.Parts.{KernelStep};
 ghost use Rattle.w16_kernel.specs.Runs.{command_of, reply_of, HasRoom, IsCall, IsReply, TakesMemory};

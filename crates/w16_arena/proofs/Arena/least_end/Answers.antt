@@ -3,7 +3,7 @@ use proofs.Common.{◌≡◌, false, ◌<◌, ◌≤◌, ℕ, nat_le, IfSome, If
 use proofs.LeastEnd.{Tells, answered_absent, answered_known, least_is, none_found, below_cap}
 use proofs.Arena.least_end.Goals.{in-None, in-Some}
 use proofs.{Shown.known, Shown.told, Reallocated.found_known}
-use Rattle.w16_model.specs.Ends.{ending, is_answered, IsLeastEnd, HasNoEnd}
+use Rattle.w16_model.specs.{Ends.ending, Ends.is_answered, Law.HasNoEnd, Law.IsLeastEnd}
 use Rattle.w16_holes.specs.declared.holes.TheConstants.{LAST_END}
 use Rattle.w16_compact.specs.{Stretch.stretch_at, declared.stretch.Stretch.Stretch}
 use Rattle.w16_arena.proofs.Arena.least_end.Goals as goal

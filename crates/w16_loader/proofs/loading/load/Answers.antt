@@ -3,7 +3,7 @@ use Rattle.w16_loader.proofs
 use proofs.Common as C
 use proofs.Common.{◌≡◌, [], Bool, None, IfOk, sym, ap, ◌∙◌, subst, in_world, Says, Meant, There, ne_format, answer_in, in_store, answers_of}
 use proofs.HeldLoads.{for_one, refused_file, there_again, unnamed}
-use Rattle.w16_loading.specs.Answers.{FillsFewest, LoadsFrom, told}
+use Rattle.w16_loading.specs.{Answers.LoadsFrom, Answers.told, Fewest.FillsFewest}
 use Rattle.std.specs.FinMap as finmap
 use Rattle.w16_loader.specs.declared.found.Reading.TheVariants as makes
 use Rattle.w16_loader.proofs.loading.load.Goals as goal

@@ -3,7 +3,7 @@ use Rattle.w16_loader.proofs
 use proofs.Common as C
 use proofs.Common.{Bool, [], Err, IfOk, sym, subst, arith, in_store, answers_of, ◌<◌, ◌≤◌, ℕ, Ok}
 use proofs.HeldLoads.{closed_load, is_closure, refused_closure}
-use Rattle.w16_loading.specs.Answers.{FillsFewest, LoadsFrom, told}
+use Rattle.w16_loading.specs.{Answers.LoadsFrom, Answers.told, Fewest.FillsFewest}
 use Rattle.w16_store.specs.Later.{RoseIf}
 use Rattle.w16_loader.specs.Devices.{is_load_device}
 use Rattle.w16_loader.proofs.loading.load_new.Goals as goal

@@ -2,7 +2,7 @@ use Rattle.w16_global.proofs
 use proofs.Common.{◌≡◌, true, false, handles_of, ap, sym, ◌∙◌, arith, refl, subst, IfSome, Owned, moved_bytes, counted, Global}
 use proofs.Owners.{handles_shown}
 use proofs.Owning.{absent_in, found_is, known_handles, none_written, not_revived, own_size, revived, revived_written, where_none}
-use Rattle.w16_model.specs.Owned.{Revives}
+use Rattle.w16_model.specs.Law.{Revives}
 use Rattle.w16_global.proofs.global.Global16.revive.Goals as goal
 
 pub reallocate-revived-requires-clause-some : goal.reallocate-revived-requires-clause-some
