@@ -18,6 +18,7 @@ pub struct Lent {
 }
 
 impl Lent {
+    /// Tells where a slice's bytes are, and how many.
     pub fn of(bytes: &[u8]) -> Lent
         ensures { result.count ≡ length bytes.now }
     {
@@ -28,8 +29,8 @@ impl Lent {
     }
 }
 
-/// `Read` without a copy, or `Write`, of any number of bytes: where they are. Until the next call those to be written may be, and what is left there
-/// then is what was written. A fault leaves what was lent before.
+/// Finds the bytes of a `Read`, or of a `Write`, of any number of bytes, without a copy. Bytes that are to be written may be changed until the next
+/// call, and what stands there then is what was written. A fault leaves what was lent before.
 #[unsafe(no_mangle)]
 pub extern "C" fn w16_find(
     alloc: Global,
