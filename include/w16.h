@@ -56,7 +56,9 @@ enum {
     W16_FAULT_DAMAGED = 11,    /* a module's file reads otherwise than it did at the load */
     W16_EXISTS = 12,           /* a file has the name already: nothing was done */
     W16_NONE_MISSING = 13,     /* no file is known to be missing */
-    W16_NO_MODULE = 14         /* no module has the handle, or only a built-in has it */
+    W16_NO_MODULE = 14,        /* no module has the handle, or only a built-in has it */
+    W16_NO_FILE = 15,          /* no file has the name: nothing was done */
+    W16_IN_USE = 16            /* a module is loaded from the file: nothing was done */
 };
 
 /* What a status says, as a text that ends with a zero. */
@@ -77,6 +79,8 @@ static inline const char *w16_status_text(uint8_t status) {
     case W16_EXISTS: return "there is a file of that name";
     case W16_NONE_MISSING: return "no file is missing";
     case W16_NO_MODULE: return "no module has the handle";
+    case W16_NO_FILE: return "no file has the name";
+    case W16_IN_USE: return "a module is loaded from the file";
     default: return "no status";
     }
 }
@@ -186,7 +190,7 @@ uint8_t w16_global_handle(w16 *machine, uint16_t selector, uint32_t *both);
 uint8_t w16_get_selector_base(w16 *machine, uint16_t selector, uint32_t *base);
 /* The offset of the last byte that it reaches, or 0. */
 uint8_t w16_get_selector_limit(w16 *machine, uint16_t selector, uint32_t *limit);
-/* Reads count bytes from a far pointer on; W16_BAD_SIZE for more than 1,024. */
+/* Reads count bytes from a far pointer on, any number that the selector reaches. */
 uint8_t w16_read(w16 *machine, uint32_t pointer, uint8_t *into, size_t count);
 /* Writes count bytes from a far pointer on, all or none: W16_FAULT_LIMIT where the selector reaches fewer, and none reaches more than 65,536;
  * W16_FAULT_READ_ONLY for code. */
@@ -245,12 +249,20 @@ uint8_t w16_get_descriptor(w16 *machine, uint16_t selector, w16_descriptor *told
  * resources; far accesses that fetch; and w16_local_alloc and w16_local_realloc, by which a segment may grow. No other changes any, as is proved. Bytes
  * may change under an unchanged descriptor too: w16_local_init, _alloc, _realloc, _free, _discard and _compact write into the segment that DS names. */
 uint8_t w16_next_changed(w16 *machine, w16_descriptor *known, size_t count, uint16_t *slot);
+/* Whether a descriptor that has changed is of an object that was discarded: its handle names it still, and it has no bytes. So the answers of
+ * w16_next_changed after a call tell what the call discarded. An object that was made or reallocated with no bytes looks the same. */
+static inline bool w16_is_discarded(const w16_descriptor *told) {
+    return told->object != 0 && !told->present;
+}
 
 /* Module files. They are kept in memory. A file's name is length bytes of text; letters of ASCII may differ in case. */
 
 /* Adds a file, whose name and bytes are copied. W16_EXISTS: a file has that name, and stays as it is, since a module may be loaded from it.
  * W16_BAD_SIZE: the name is empty. */
 uint8_t w16_add_file(w16 *machine, const char *name, size_t length, const uint8_t *bytes, size_t count);
+/* Takes a file away, and gives its memory back. W16_IN_USE: a module is loaded from it, which reads its code there when that was discarded.
+ * W16_NO_FILE: no file has the name. */
+uint8_t w16_remove_file(w16 *machine, const char *name, size_t length);
 /* The name of the file that a load missed: ask after one that answered 2 or 20, add the file, and load again. It is the last name, of at most
  * W16_MOST_NAME bytes, by which no file was found; W16_NONE_MISSING where a file was found or added since. W16_BAD_SIZE: the buffer is shorter. */
 uint8_t w16_missing_file(w16 *machine, char *name, size_t room, size_t *length);

@@ -8,7 +8,7 @@ pub use Rattle.std_alloc.specs.Box.Ownership.{box_owns}
 pub use Rattle.core.proofs.alloc.Calls.{Fits, Goes-blank, handle_tells, token}
 pub use Rattle.core.proofs.mem.Facts.{says_two}
 pub use Rattle.core.proofs.option.Made.{Some-of, none_of}
-pub use Rattle.w16_c.specs.Kinds.{AnswersDword, AnswersWord, IsBytes, IsDoneOrFault, IsDword, IsWord, IsWrite}
+pub use Rattle.w16_c.specs.Kinds.{AnswersDword, AnswersWord, IsDoneOrFault, IsDword, IsWord, IsWrite}
 pub use Rattle.w16_c.specs.Ownership.{clones, held_owns, machine_row}
 pub use Rattle.w16_kernel.proofs.Common.{KernelStep, ne_format}
 pub use Rattle.w16_loading.proofs.Common.{Fetching, GlobalDiscard, ResizeStep}

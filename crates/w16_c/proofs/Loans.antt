@@ -1,8 +1,12 @@
 -- What is lent, by what the kernel has found.
 use Rattle.w16_c.proofs.Common.{◌≡◌, ℕ, Bool, true, false, Ok, Err, length, refl, sym, subst, Command, World, OfLoading, OfFar, Read, KernelStep, ne_format, IsDoneOrFault, Reply}
-use Rattle.w16_c.proofs.ReplyKinds.{done_calls}
+use Rattle.w16_c.proofs.ReplyKinds.{fault_calls}
 use Rattle.std.proofs.Common.{◌≢◌, ◌∙◌, arith, inl, inr}
-use Rattle.w16_loading.specs.Replies.Reply.{Bytes, Failed, Fault}
+use Rattle.std.specs.Prelude.{List}
+use Rattle.w16_loading.specs.Families.LoadingCommand.{OfHandles}
+use Rattle.w16_kernel.specs.Questions.{IsAnswered}
+use Rattle.w16_model.specs.Calls.{HandleCommand}
+use Rattle.w16_loading.specs.Replies.Reply.{Bytes, Done, Failed, Fault}
 use Rattle.w16_machine.specs.Law.{IsCommand}
 use Rattle.w16_writes.proofs.Promises.{promised_step}
 use Rattle.w16_model.specs.Heap.{bytes_at}
@@ -10,7 +14,7 @@ use Rattle.w16_global.proofs.Loans.{part_length}
 use Rattle.w16_global.specs.{Loans.lent_bytes, declared.loan.Place.Place}
 use Rattle.w16_kernel.specs.{Lent.FindsPlace, Lent.IsFarFault, Parts.IsWorldOver, Runs.reply_of}
 use Rattle.w16_kernel.specs.declared.call.Reply as code
-use Rattle.w16_c.specs.{Makes.IsStatus, Makes.Lends, Makes.Makes, declared.held.Held.Held, declared.lent.Lent.Lent}
+use Rattle.w16_c.specs.{Makes.FarCalls, Makes.IsStatus, Makes.Lends, Makes.Makes, declared.held.Held.Held, declared.lent.Lent.Lent}
 use Rattle.w16_c.specs.declared.status.TheConstants.{DONE}
 
 pub fault_is : (reply : Reply) → IsFarFault reply → IsDoneOrFault reply
@@ -46,5 +50,18 @@ module _ {old new : Held} {w w' : World} (was : old.is_held ≡ true) (is : new.
 
   pub unlent : {pointer count : ℕ} {before after : Lent} (write : Bool) (status : ℕ) (reply : code.Reply) → after ≡ before → IsFarFault (reply_of reply) → IsStatus status (reply_of reply)
       → FindsPlace (Unit {0}) w write pointer count (Err reply) w' → Lends old write pointer count status before after new
-  unlent false status reply same k s f = inr (inr (not_done status (reply_of reply) k s, same, λ known. done_calls old _ status _ new s (makes known f)))
-  unlent true status reply same k s f = inr (inr (not_done status (reply_of reply) k s, same, λ bytes long known. done_calls old _ status _ new s (makes known (f bytes long))))
+  unlent false status reply same k s f = inr (inr (not_done status (reply_of reply) k s, same, λ known. fault_calls old _ status _ Done new k s (makes known f)))
+  unlent true status reply same k s f = inr (inr (not_done status (reply_of reply) k s, same, λ bytes long known. fault_calls old _ status _ Done new k s (makes known (f bytes long))))
+
+  -- and the bytes that are read are what is lent
+  pub read : {pointer count : ℕ} {after : List ℕ} (place : Place) → after ≡ lent_bytes w'.loading.handles place → FindsPlace (Unit {0}) w false pointer count (Ok place) w' → FarCalls old (OfLoading (OfFar (Read pointer count))) DONE (Bytes after) new
+  read {pointer} {count} place e f = inl (inl (refl, subst (λ b. Makes old (OfLoading (OfFar (Read pointer count))) (Bytes b) new) (sym e) (makes tt f.0)))
+
+  pub unread : {pointer count : ℕ} {after : List ℕ} (status : ℕ) (reply : code.Reply) → IsFarFault (reply_of reply) → IsStatus status (reply_of reply) → FindsPlace (Unit {0}) w false pointer count (Err reply) w'
+      → FarCalls old (OfLoading (OfFar (Read pointer count))) status (Bytes after) new
+  unread status reply k s f = fault_calls old _ status _ (Bytes _) new k s (makes tt f)
+
+-- and a question that it answered, the holder answers
+pub answered : {old new : Held} {w : World} {command : HandleCommand} {reply : Reply} → old.is_held ≡ true → new.is_held ≡ true → w ≡ old.world → new.world ≡ w → IsAnswered (Unit {0}) w command reply
+    → Makes old (OfLoading (OfHandles command)) reply new
+answered was is from to a = record { was = was; is = is; step = rw (← from, to) a.step; promises = rw (← from, to) a.promises }

@@ -5,7 +5,6 @@ use Rattle.w16_c.proofs.Common.{refuses_write, length-part, HandleCommand, Answe
 use Rattle.w16_c.proofs.Common.{GlobalFlags, GlobalHandle, GetSelectorBase, GetSelectorLimit, GlobalCompact, GlobalLRUNewest, GlobalLRUOldest, Moved, FarAnswer, Reached, reached, far_fault, far_slot, Read, Write, Fill}
 use Rattle.w16_c.proofs.Common.{FetchFault, Fetching, Accesses, gives, needs_fetch, reply_of_far, LoadingWorld, OfHandles, OfResizes, OfFar, ResizeCommand, GlobalReAlloc, GlobalDiscard, Reply, HandleReplies}
 use Rattle.w16_c.proofs.Common.{ResizeReplies, Word, Dword, Done, Failed, Walked, LocalCommand, LocalStep, DS, World, Command, OfLoading, OfLocals, KernelStep, ne_format, AnswersWord, AnswersDword, IsWrite, IsWord, IsDword, IsDoneOrFault}
-use Rattle.w16_c.proofs.Common.{IsBytes}
 use Rattle.std.proofs.Common.{◌⊎◌, ◌∙◌, ap, inl, inr}
 use Rattle.w16_loading.specs.Replies.Reply.{Bytes, Fault}
 use Rattle.w16_loading.specs.Families as families
@@ -20,8 +19,9 @@ use Rattle.w16_loading.specs.declared.FetchFault.TheVariants as fetch
 use Rattle.w16_loading.specs.declared.TheConstants.{MOST_USES}
 use Rattle.w16_machine.proofs.Stepped.{fetching}
 use Rattle.w16_model.specs.Handles.{IsFreeSlot}
+use Rattle.w16_kernel.specs.Lent.{IsFarFault}
 use Rattle.w16_c.specs.Kinds.{FetchesWord, IsOrFailure}
-use Rattle.w16_c.specs.Makes.{FarCalls, FetchCalls, IsRead, IsStatus, Makes, Stays, Tells}
+use Rattle.w16_c.specs.Makes.{FarCalls, FetchCalls, IsStatus, Makes, Stays, Tells}
 use Rattle.w16_c.specs.declared.held.Held.{Held}
 use Rattle.w16_model.specs.declared.Refusal.TheVariants as refusals
 use Rattle.w16_model.specs.Calls as calls
@@ -71,20 +71,14 @@ module _ (old new : Handles) where
   handle_word (GlobalFree handle) answer k h =
       rw h.0 (if_both WordAnswer (owns old handle) _ _ tt (by_name WordAnswer _ _ (tt) (λ slot. by_result _ _ (tt) (λ _. tt) (after_free old.heap slot)) (slot_of_handle old handle)))
   handle_word (GlobalUnlock handle) answer k h = rw h.0 (by_name WordAnswer _ _ (tt) (λ slot. by_result _ _ (tt) (λ _. tt) (after_unlock old.heap slot)) (slot_of_handle old handle))
-  handle_word (GlobalFlags handle) answer k h = rw h.0 tt
   handle_word (GlobalLRUNewest handle) answer k h = rw h.0 (order_word after_newest old handle)
   handle_word (GlobalLRUOldest handle) answer k h = rw h.0 (order_word after_oldest old handle)
   handle_word command answer k h = absurd k
 
   handle_dword : (command : HandleCommand) (answer : Answer) → AnswersDword (OfLoading (OfHandles command)) → HandleStep old command answer new → DwordAnswer answer
   handle_dword (GlobalLock handle) answer k h = rw h.0 (lock_dword old handle)
-  handle_dword (GlobalSize handle) answer k h = rw h.0 tt
-  handle_dword (GlobalHandle selector) answer k h = rw h.0 tt
-  handle_dword (GetSelectorBase selector) answer k h = rw h.0 tt
-  handle_dword (GetSelectorLimit selector) answer k h = rw h.0 tt
   handle_dword (GlobalCompact size) (calls.Answer.Dword n) k h = tt
   handle_dword (GlobalCompact size) answer k h = absurd h
-  handle_dword Moved answer k h = rw h.0 tt
   handle_dword command answer k h = absurd k
 
   handles_word : (command : HandleCommand) (reply : Reply) → AnswersWord (OfLoading (OfHandles command)) → HandleReplies old command reply new → IsWord reply
@@ -219,19 +213,6 @@ write_done old selector offset slice = if_both (λ a. IsDoneOrFault (reply_of_fa
     turn done None = tt
     turn done (Some fault) = tt
 
--- a read has as many bytes as it asks for, or a fault
-read_bytes : (old : Handles) (selector offset n : ℕ) → IsBytes n (reply_of_far (far.far_read old selector offset n).0)
-read_bytes old selector offset n = turn (far_fault old selector offset n) refl
-  where
-    turn : (p : Option FarFault) → far_fault old selector offset n ≡ p → IsBytes n (reply_of_far (elim p as (λ _. FarAnswer × Handles) [
-      | Some fault ↦ (FarAnswer.Fault fault, old)
-      | None ↦ (FarAnswer.Bytes (part (far.far_bytes old selector) (far.far_at old selector offset) n), record old { heap = after_touch old.heap (far_slot old selector) })
-    ]).0)
-    turn (Some fault) e = tt
-    turn None e =
-        let r : Reached old (far_slot old selector) (far.far_at old selector offset + n) = reached old selector offset n e in
-        ap (λ b. length (part (unwrap_or b []) (far.far_at old selector offset) n)) r.here ∙ length-part r.bytes (far.far_at old selector offset) n r.fits
-
 module _ (old new : World) where
   local_done : (command : LocalCommand) (reply : Reply) → IsWrite (OfLocals command) → LocalStep old command reply new → IsDoneOrFault reply
   local_done (DS selector) Done k h = tt
@@ -245,15 +226,11 @@ module _ (old new : World) where
   write_reply (OfLocals command) reply k step = local_done command reply k step.step
   write_reply command reply k step = absurd k
 
-  pub read_reply : (pointer count : ℕ) (reply : Reply) → KernelStep (Unit {0}) old (OfLoading (OfFar (Read pointer count))) reply new → IsBytes count reply
-  read_reply pointer count reply step = accessed (IsBytes count) (over old new) _ old.loading _ reply _ (λ w. read_bytes w.handles (selector_in pointer) (offset_in pointer) count) (λ f. tt) step.step.0.step
-
--- what was copied of a reply is what the access answers
-pub read_calls : (old : Held) (command : Command) (status : ℕ) (reply : Reply) (before after : List ℕ) (new : Held) → IsRead status reply before after → Makes old command reply new → FarCalls old command status (Bytes after) new
-read_calls old command status (Bytes bytes) before after new is makes = inl (inl (is.0, subst (λ b. Makes old command (Bytes b) new) (sym is.1) makes))
-read_calls old command status (Fault fault) before after new is makes = inr (inl (fault, is.0, makes))
-read_calls old command status (Failed fault) before after new is makes = inr (inr (fault, is.0, makes))
-read_calls old command status reply before after new is makes = absurd is
+-- what is told of a fault is what the access answers
+pub fault_calls : (old : Held) (command : Command) (status : ℕ) (reply wanted : Reply) (new : Held) → IsFarFault reply → IsStatus status reply → Makes old command reply new → FarCalls old command status wanted new
+fault_calls old command status (Fault fault) wanted new k is makes = inr (inl (fault, is, makes))
+fault_calls old command status (Failed fault) wanted new k is makes = inr (inr (fault, is, makes))
+fault_calls old command status reply wanted new k is makes = absurd k
 
 -- and so is that something is done
 pub done_calls : (old : Held) (command : Command) (status : ℕ) (reply : Reply) (new : Held) → IsStatus status reply → Makes old command reply new → FarCalls old command status Done new

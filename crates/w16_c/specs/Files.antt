@@ -3,8 +3,9 @@ use Rattle.std.specs.Prelude.{◌≡◌, ℕ, ◌⊎◌, true, MatchBool, nat_lt
 use Rattle.w16_store.specs.Files.{file_of}
 use Rattle.w16_loading.specs.{File.Label, File.Label.Number, File.Label.Text}
 use Rattle.w16_kernel.specs.declared.growing.AddFault.TheVariants.{Exists, Memory, Unnamed}
-use Rattle.w16_kernel.specs.Growing.{AddsFile, IsNotAdded}
-use Rattle.w16_c.specs.declared.status.TheConstants.{DONE, NO_MACHINE, NO_MEMORY, BAD_SIZE, EXISTS, NONE_MISSING}
+use Rattle.w16_kernel.specs.declared.growing.RemoveFault.TheVariants as remove
+use Rattle.w16_kernel.specs.Growing.{AddsFile, IsNotAdded, IsNotRemoved, RemovesFile}
+use Rattle.w16_c.specs.declared.status.TheConstants.{DONE, NO_MACHINE, NO_MEMORY, BAD_SIZE, EXISTS, IN_USE, NO_FILE, NONE_MISSING}
 use Rattle.w16_c.specs.{declared.held.Held.Held, Makes.IsEmpty}
 
 -- a machine is held, and its world is the same
@@ -19,6 +20,14 @@ AddCalls old name bytes status new =
     ⊎ ((status ≡ BAD_SIZE) × IsNotAdded old.world.loading.files name Unnamed × SameMachine old new)
     ⊎ ((status ≡ EXISTS) × IsNotAdded old.world.loading.files name Exists × SameMachine old new)
     ⊎ ((status ≡ NO_MEMORY) × IsNotAdded old.world.loading.files name Memory × SameMachine old new)
+
+-- A file is taken away from a machine that is held, from which no module of it is loaded; or nothing changes.
+abbrev pub RemoveCalls : Held → List ℕ → ℕ → Held → Type 0
+RemoveCalls old name status new =
+    ((status ≡ DONE) × (old.is_held ≡ true) × (new.is_held ≡ true) × RemovesFile old.world name new.world)
+    ⊎ ((status ≡ NO_MACHINE) × IsEmpty old new)
+    ⊎ ((status ≡ IN_USE) × IsNotRemoved old.world.loading name remove.InUse × SameMachine old new)
+    ⊎ ((status ≡ NO_FILE) × IsNotRemoved old.world.loading name remove.Missing × SameMachine old new)
 
 -- A name goes to the begin of a buffer, and its length beside it; both stay as they were where there is none, or where it doesn't fit.
 abbrev pub TellsName : (nothing : ℕ) → Option (List ℕ) → ℕ → List ℕ → List ℕ → ℕ → ℕ → Type 0

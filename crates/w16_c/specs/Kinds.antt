@@ -1,12 +1,11 @@
--- Which commands are answered by a word, which by a double word, and which by a fault.
-use Rattle.std.specs.Prelude.{◌≡◌, ℕ, length}
-use Rattle.w16_model.specs.Calls.HandleCommand.{GlobalAlloc, GlobalFree, GlobalLock, GlobalUnlock, GlobalSize, GlobalFlags, GlobalHandle, GetSelectorBase, GetSelectorLimit, GlobalCompact, GlobalLRUNewest, GlobalLRUOldest, Moved}
+-- Which of the commands that change something are answered by a word, which by a double word, and which by a fault.
+use Rattle.w16_model.specs.Calls.HandleCommand.{GlobalAlloc, GlobalFree, GlobalLock, GlobalUnlock, GlobalCompact, GlobalLRUNewest, GlobalLRUOldest}
 use Rattle.w16_model.specs.Far.FarCommand.{Write, Fill}
 use Rattle.w16_loading.specs.Families.LoadingCommand.{OfHandles, OfResizes, OfFar, OfModules, OfResources}
 use Rattle.w16_loading.specs.Families.ModuleCommand.{Builtin, LoadModule, LoadLibrary, FreeLibrary, FreeModule, GetModuleHandle, GetModuleUsage, GetProcAddress}
 use Rattle.w16_loading.specs.Families.ResourceCommand.{FindResource, LoadResource, FreeResource, SizeofResource}
 use Rattle.w16_loading.specs.Replies.{Reply}
-use Rattle.w16_loading.specs.Replies.Reply.{Word, Dword, Bytes, Done, Fault, Failed}
+use Rattle.w16_loading.specs.Replies.Reply.{Word, Dword, Done, Fault, Failed}
 use Rattle.w16_machine.specs.{LocalCalls.LocalCommand.DS, Machine.Command, Machine.Command.OfLoading, Machine.Command.OfLocals}
 
 -- by a word: a handle, a name, an offset, flags, or a count of locks
@@ -14,7 +13,6 @@ abbrev pub AnswersWord : Command → Type 0
 AnswersWord (OfLoading (OfHandles (GlobalAlloc flags size))) = Unit {0}
 AnswersWord (OfLoading (OfHandles (GlobalFree handle))) = Unit {0}
 AnswersWord (OfLoading (OfHandles (GlobalUnlock handle))) = Unit {0}
-AnswersWord (OfLoading (OfHandles (GlobalFlags handle))) = Unit {0}
 AnswersWord (OfLoading (OfHandles (GlobalLRUNewest handle))) = Unit {0}
 AnswersWord (OfLoading (OfHandles (GlobalLRUOldest handle))) = Unit {0}
 AnswersWord (OfLoading (OfResizes command)) = Unit {0}
@@ -32,12 +30,7 @@ AnswersWord command = ⊥
 -- by a double word: a far pointer, a size, an address, or a selector and a handle
 abbrev pub AnswersDword : Command → Type 0
 AnswersDword (OfLoading (OfHandles (GlobalLock handle))) = Unit {0}
-AnswersDword (OfLoading (OfHandles (GlobalSize handle))) = Unit {0}
-AnswersDword (OfLoading (OfHandles (GlobalHandle selector))) = Unit {0}
-AnswersDword (OfLoading (OfHandles (GetSelectorBase selector))) = Unit {0}
-AnswersDword (OfLoading (OfHandles (GetSelectorLimit selector))) = Unit {0}
 AnswersDword (OfLoading (OfHandles (GlobalCompact size))) = Unit {0}
-AnswersDword (OfLoading (OfHandles Moved)) = Unit {0}
 AnswersDword (OfLoading (OfModules (GetProcAddress handle label))) = Unit {0}
 AnswersDword (OfLoading (OfResources (SizeofResource handle place))) = Unit {0}
 AnswersDword command = ⊥
@@ -62,13 +55,6 @@ IsDword reply = ⊥
 abbrev pub IsOrFailure : (Reply → Type 0) → Reply → Type 0
 IsOrFailure Is (Failed f) = Unit {0}
 IsOrFailure Is reply = Is reply
-
--- that many bytes, or why there are none
-abbrev pub IsBytes : ℕ → Reply → Type 0
-IsBytes count (Bytes bytes) = length bytes ≡ count
-IsBytes count (Fault f) = Unit {0}
-IsBytes count (Failed f) = Unit {0}
-IsBytes count reply = ⊥
 
 -- no more than that it is done, or why it isn't
 abbrev pub IsDoneOrFault : Reply → Type 0

@@ -102,13 +102,6 @@ IsStatus status (Fault f) = status ≡ fault_status f
 IsStatus status (Failed f) = status ≡ fetch_status f
 IsStatus status reply = ⊥
 
--- and of one that has bytes, which are copied
-abbrev pub IsRead : ℕ → Reply → List ℕ → List ℕ → Type 0
-IsRead status (Bytes bytes) before after = (status ≡ DONE) × (after ≡ bytes)
-IsRead status (Fault f) before after = (status ≡ fault_status f) × (after ≡ before)
-IsRead status (Failed f) before after = (status ≡ fetch_status f) × (after ≡ before)
-IsRead status reply before after = ⊥
-
 -- more bytes than a call may ask for: nothing changes
 abbrev pub AsksTooMuch : Held → ℕ → Held → Type 0
 AsksTooMuch old status new = (status ≡ BAD_SIZE) × (new ≡ old)

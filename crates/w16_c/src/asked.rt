@@ -9,7 +9,7 @@ use crate::held::Held;
 use crate::life::{put_back, taken};
 use crate::status::{DONE, NO_MACHINE, NO_MEMORY, status_of, status_of_fetch};
 use std::alloc::Global;
-use w16_kernel::{Call, MOST_READ, Reply};
+use w16_kernel::{Call, Reply};
 
 /// Why no call was made.
 #[derive(Clone, Copy)]
@@ -20,26 +20,7 @@ pub enum Refusal {
     NoMemory,
 }
 
-/// One step of the machine that is held. Bytes that are read are put into the room.
-pub fn asked_with_room<'r>(
-    alloc: Global,
-    held: &mut Held,
-    call: &Call<'_>,
-    room: &'r mut [u8; MOST_READ],
-) -> Result<Reply<'r>, Refusal>
-    requires { IsCall call.now }
-    ensures made { IfOk result (λ reply. Makes held.old (command_of call.now) (reply_of reply) held.new) }
-    ensures refused { IfErr result (λ refusal. Refuses held.old (command_of call.now) refusal held.new) }
-{
-    let Some(mut kernel) = taken(held, alloc) else {
-        return Err(Refusal::NoMachine);
-    };
-    let reply = kernel.call(call, room);
-    put_back(held, alloc, kernel);
-    reply.map_err(|_| Refusal::NoMemory)
-}
-
-/// The same of a call that reads no bytes.
+/// One step of the machine that is held, by a call that reads no bytes.
 pub fn asked(alloc: Global, held: &mut Held, call: &Call<'_>) -> Result<Reply<'static>, Refusal>
     requires call { IsCall call.now }
     requires room { HasRoom call.now 0 }

@@ -1,13 +1,13 @@
 //! Module files, which come from C.
 ghost use Rattle.std.specs.Prelude.{◌≡◌, true, false, option_map};
 ghost use Rattle.w16_c.specs.Makes.{IsEmpty};
-ghost use Rattle.w16_c.specs.Files.{AddCalls, SameMachine, TellsMissing, TellsName};
+ghost use Rattle.w16_c.specs.Files.{AddCalls, RemoveCalls, SameMachine, TellsMissing, TellsName};
 
 use crate::held::Held;
 use crate::life::{put_back, taken};
-use crate::status::{BAD_SIZE, DONE, EXISTS, NO_MACHINE, NO_MEMORY, NONE_MISSING};
+use crate::status::{BAD_SIZE, DONE, EXISTS, IN_USE, NO_FILE, NO_MACHINE, NO_MEMORY, NONE_MISSING};
 use std::alloc::Global;
-use w16_kernel::AddFault;
+use w16_kernel::{AddFault, RemoveFault};
 
 /// Adds a module file, whose bytes are copied, under a name that no file of the machine has, in any case of letters. `EXISTS` is that one has it:
 /// no file is replaced; `BAD_SIZE` that the name is empty. It takes memory, and `NO_MEMORY` is that there was none. Only `DONE` changes anything.
@@ -25,6 +25,24 @@ pub extern "C" fn w16_add_file(alloc: Global, held: &mut Held, name: &[u8], byte
         Err(AddFault::Unnamed) => BAD_SIZE,
         Err(AddFault::Exists) => EXISTS,
         Err(AddFault::Memory) => NO_MEMORY,
+    }
+}
+
+/// Takes a module file away, by its name in any case of letters. `IN_USE` is that a module is loaded from it, and `NO_FILE` that no file has the name.
+/// Only `DONE` changes anything.
+#[unsafe(no_mangle)]
+pub extern "C" fn w16_remove_file(alloc: Global, held: &mut Held, name: &[u8]) -> u8
+    ensures { RemoveCalls held.old name.now result held.new }
+{
+    let Some(mut kernel) = taken(held, alloc) else {
+        return NO_MACHINE;
+    };
+    let removed = kernel.remove_file(name);
+    put_back(held, alloc, kernel);
+    match removed {
+        Ok(()) => DONE,
+        Err(RemoveFault::InUse) => IN_USE,
+        Err(RemoveFault::Missing) => NO_FILE,
     }
 }
 

@@ -5,6 +5,8 @@ ghost use Rattle.w16_c.specs.Makes.{WordCalls, DwordCalls};
 
 use crate::asked::{dword, word};
 use crate::held::Held;
+use crate::life::{put_back, taken};
+use crate::status::{DONE, NO_MACHINE};
 use std::alloc::Global;
 use w16_kernel::{Call, GlobalAllocFlags, GlobalReAllocFlags};
 
@@ -138,7 +140,12 @@ pub extern "C" fn w16_global_lru_oldest(
 pub extern "C" fn w16_global_size(alloc: Global, held: &mut Held, handle: u16, size: &mut u32) -> u8
     ensures { DwordCalls held.old (command_of (calls.GlobalSize handle)) result size.old size.new held.new }
 {
-    dword(alloc, held, &Call::GlobalSize { handle }, size)
+    let Some(kernel) = taken(held, alloc) else {
+        return NO_MACHINE;
+    };
+    *size = kernel.global_size(handle);
+    put_back(held, alloc, kernel);
+    DONE
 }
 
 /// `GlobalFlags`: an object's flags and its lock count, or 0.
@@ -151,7 +158,12 @@ pub extern "C" fn w16_global_flags(
 ) -> u8
     ensures { WordCalls held.old (command_of (calls.GlobalFlags handle)) result flags.old flags.new held.new }
 {
-    word(alloc, held, &Call::GlobalFlags { handle }, flags)
+    let Some(kernel) = taken(held, alloc) else {
+        return NO_MACHINE;
+    };
+    *flags = kernel.global_flags(handle);
+    put_back(held, alloc, kernel);
+    DONE
 }
 
 /// `GlobalHandle`: a selector in the high word and its object's handle in the low one, or 0.
@@ -164,7 +176,12 @@ pub extern "C" fn w16_global_handle(
 ) -> u8
     ensures { DwordCalls held.old (command_of (calls.GlobalHandle selector)) result both.old both.new held.new }
 {
-    dword(alloc, held, &Call::GlobalHandle { selector }, both)
+    let Some(kernel) = taken(held, alloc) else {
+        return NO_MACHINE;
+    };
+    *both = kernel.global_handle(selector);
+    put_back(held, alloc, kernel);
+    DONE
 }
 
 /// `GetSelectorBase`: the address where the selector's object stands, or 0.
@@ -177,7 +194,12 @@ pub extern "C" fn w16_get_selector_base(
 ) -> u8
     ensures { DwordCalls held.old (command_of (calls.GetSelectorBase selector)) result base.old base.new held.new }
 {
-    dword(alloc, held, &Call::GetSelectorBase { selector }, base)
+    let Some(kernel) = taken(held, alloc) else {
+        return NO_MACHINE;
+    };
+    *base = kernel.selector_base(selector);
+    put_back(held, alloc, kernel);
+    DONE
 }
 
 /// `GetSelectorLimit`: the offset of the last byte of the selector's object, or 0.
@@ -190,7 +212,12 @@ pub extern "C" fn w16_get_selector_limit(
 ) -> u8
     ensures { DwordCalls held.old (command_of (calls.GetSelectorLimit selector)) result limit.old limit.new held.new }
 {
-    dword(alloc, held, &Call::GetSelectorLimit { selector }, limit)
+    let Some(kernel) = taken(held, alloc) else {
+        return NO_MACHINE;
+    };
+    *limit = kernel.selector_limit(selector);
+    put_back(held, alloc, kernel);
+    DONE
 }
 
 /// `Moved`: how many bytes the last call for room moved.
@@ -198,5 +225,10 @@ pub extern "C" fn w16_get_selector_limit(
 pub extern "C" fn w16_moved(alloc: Global, held: &mut Held, bytes: &mut u32) -> u8
     ensures { DwordCalls held.old (command_of calls.Moved) result bytes.old bytes.new held.new }
 {
-    dword(alloc, held, &Call::Moved, bytes)
+    let Some(kernel) = taken(held, alloc) else {
+        return NO_MACHINE;
+    };
+    *bytes = kernel.moved();
+    put_back(held, alloc, kernel);
+    DONE
 }

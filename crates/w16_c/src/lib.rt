@@ -20,7 +20,7 @@ mod status;
 
 pub use descriptors::{Descriptor, w16_get_descriptor, w16_next_changed, w16_peek};
 pub use far::{w16_fill, w16_read, w16_write};
-pub use files::{w16_add_file, w16_missing_file};
+pub use files::{w16_add_file, w16_missing_file, w16_remove_file};
 pub use global::{
     w16_get_selector_base, w16_get_selector_limit, w16_global_alloc, w16_global_compact,
     w16_global_discard, w16_global_flags, w16_global_free, w16_global_handle, w16_global_lock,
@@ -49,7 +49,8 @@ pub use resources::{
 };
 pub use status::{
     BAD_SIZE, DONE, END, EXISTS, FAULT_DAMAGED, FAULT_LIMIT, FAULT_NOT_PRESENT, FAULT_READ_ONLY,
-    FAULT_ROOM, FAULT_SELECTOR, FAULT_STORE, NO_MACHINE, NO_MEMORY, NO_MODULE, NONE_MISSING,
+    FAULT_ROOM, FAULT_SELECTOR, FAULT_STORE, IN_USE, NO_FILE, NO_MACHINE, NO_MEMORY, NO_MODULE,
+    NONE_MISSING,
 };
 
 #[cfg(test)]

@@ -50,6 +50,12 @@ pub const NONE_MISSING: u8 = 13;
 /// No module that was loaded from a file has the handle.
 pub const NO_MODULE: u8 = 14;
 
+/// No file has the name. Nothing changed.
+pub const NO_FILE: u8 = 15;
+
+/// A module is loaded from the file. Nothing changed.
+pub const IN_USE: u8 = 16;
+
 /// A fault of a far access, as a status.
 pub fn status_of(fault: FarFault) -> u8
     ensures { result ≡ fault_status fault }

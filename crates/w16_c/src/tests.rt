@@ -330,12 +330,25 @@ fn names_are_told(alloc: Global, held: &mut Held) -> bool {
         && (length, ordinal, pointer) == (2, 1, 0x0107_0002)
 }
 
+/// Whether TGO's file goes only after TGO.
+fn file_goes(alloc: Global, held: &mut Held) -> bool {
+    let mut left = 1;
+    let statuses = [
+        w16_remove_file(alloc, held, b"tgo.exe"),
+        w16_free_library(alloc, held, 0x21, &mut left),
+        w16_remove_file(alloc, held, b"tgo.exe"),
+        w16_remove_file(alloc, held, b"TGO.EXE"),
+    ];
+    statuses == [IN_USE, DONE, DONE, NO_FILE] && left == 0
+}
+
 #[test]
 fn modules_are_told_one_by_one(rt: HostRuntime) {
     let alloc = rt.alloc();
     let (mut held, is_begun) = begun(alloc, 4096);
     let added = w16_add_file(alloc, &mut held, b"TGO.EXE", TGO) == DONE;
-    let good = modules_are_told(alloc, &mut held) && names_are_told(alloc, &mut held);
+    let told = modules_are_told(alloc, &mut held) && names_are_told(alloc, &mut held);
+    let good = told && file_goes(alloc, &mut held);
     assert!(rt; is_freed(alloc, held) && is_begun && added && good);
 }
 

@@ -7,13 +7,14 @@ pub use Rattle.std.specs.Prelude.{None, Option, Some, find, is_ok}
 pub use Rattle.w16_format.specs.Data.{contents_in, data_in, far_in, far_of, padded, records_in, targets_in}
 pub use Rattle.w16_format.specs.Law.{IsFileOf, IsRelocated}
 pub use Rattle.w16_format.specs.Layout.{layout_code}
-pub use Rattle.w16_format.specs.Ne.{content_at, has_bytes, module_file, ne_format, number_of, plain_format, read_as, written}
+pub use Rattle.w16_format.specs.Ne.{content_at, has_bytes, module_file, ne_format, refusal_by_format, plain_format, read_as, written}
 pub use Rattle.w16_format.specs.Samples.{HasResource, IsLibrary, IsProgram, SamplesLaw}
 unfoldable pub use Rattle.w16_format.specs.Samples.{tapp, tlib, tres}
 pub use Rattle.w16_format.specs.Tables.{entry_in, resource_in, segment_in, tables_in}
 pub use Rattle.w16_loading.proofs.Common.{AllZip, Far, IfOk, IfSome, IsContent, IsFormat, IsItsFiles, IsModuleFile, IsOfFiles, IsSegmentData, IsSomeAnd, LoadingWorld, MatchResult, Module, ModuleFile}
 pub use Rattle.w16_loading.proofs.Common.{SegmentData, and_parts, are_sound, list_all, module_at, numbered, read_of, resource_bytes, rounded_size, segment_bytes, slice_index_or}
 unfoldable pub use Rattle.w16_loading.proofs.Common.{repeated}
+pub use Rattle.w16_loading.specs.Refusals.{OrRefused}
 pub use Rattle.w16_loading.specs.declared.TheConstants.{LARGEST_OWNED}
 pub use Rattle.w16_model.proofs.Common.{All-drop, All-take, IsMultiple, and_from}
 pub use Rattle.w16_model.specs.declared.TheConstants.{GRAIN}

@@ -23,7 +23,7 @@ sound_law file t = all_told file t t.segments
 read_is : (world : LoadingWorld) (m : Module) (file : List ℕ) (t : Tables) → IsFileOf world m file t → C.read_of ne_format world m ≡ Some (C.module_file file t)
 read_is world m file t is =
     ap (λ (p : Option (List ℕ)). elim p as (λ _. Option ModuleFile) [ None ↦ None | Some bytes ↦ elim (ne_format.says bytes) as (λ _. Option ModuleFile) [ Ok read ↦ Some read | Err _ ↦ None ] ]) is.stored
-    ∙ ap (λ (r : Result ModuleFile ℕ). elim r as (λ _. Option ModuleFile) [ Ok read ↦ Some read | Err _ ↦ None ]) (accepted file t is.bytes is.tables)
+    ∙ ap (λ (r : C.OrRefused ModuleFile). elim r as (λ _. Option ModuleFile) [ Ok read ↦ Some read | Err _ ↦ None ]) (accepted file t is.bytes is.tables)
 
 -- Segments.
 
@@ -48,6 +48,6 @@ pub resource_given : (world : LoadingWorld) (m : Module) (file : List ℕ) (t : 
     → C.resource_at t.resources place ≡ Some r → C.resource_bytes ne_format world m place ≡ Some (C.contents_in file r)
 resource_given world m file t place r is there =
     ap (λ (p : Option (List ℕ)). elim p as (λ _. Option (List ℕ)) [ None ↦ None | Some bytes ↦ elim (ne_format.says bytes) as (λ _. Option (List ℕ)) [ Ok _ ↦ ne_format.contents bytes place | Err _ ↦ None ] ]) is.stored
-    ∙ ap (λ (said : Result ModuleFile ℕ). elim said as (λ _. Option (List ℕ)) [ Ok _ ↦ ne_format.contents file place | Err _ ↦ None ]) (accepted file t is.bytes is.tables)
+    ∙ ap (λ (said : C.OrRefused ModuleFile). elim said as (λ _. Option (List ℕ)) [ Ok _ ↦ ne_format.contents file place | Err _ ↦ None ]) (accepted file t is.bytes is.tables)
     ∙ ap (C.content_at file place) is.tables
     ∙ ap (option_map (C.contents_in file)) there

@@ -1,12 +1,14 @@
 -- NE files are a format.
 use Rattle.w16_format.proofs
 use proofs.Common as C
-use proofs.Common.{◌≡◌, ℕ, ◌+◌, ◌<◌, ◌≤◌, Bool, true, false, cond, List, take, drop, Some, Result, Ok, Err, refl, sym, ◌∙◌, ap, arith, Option, None, IsSomeAnd, All, NeFault, Store, Tables, tables_at, file_of, IfOk, IfSome, IsContent, subst, IsModuleFile, ModuleFile, layout_code, IsFileOf}
-use proofs.Common.{tables_in, has_bytes, module_file, ne_format, number_of, plain_format, read_as}
+use proofs.Common.{◌≡◌, ℕ, ◌+◌, ◌<◌, ◌≤◌, Bool, true, false, cond, List, take, drop, Some, Result, Ok, Err, refl, sym, ◌∙◌, ap, Option, None, IsSomeAnd, All, NeFault, Store, Tables, tables_at, file_of, IfOk, IfSome, IsContent, subst, IsModuleFile, ModuleFile, layout_code, IsFileOf}
+use proofs.Common.{tables_in, has_bytes, module_file, ne_format, refusal_by_format, plain_format, read_as}
 use proofs.Bytes.{AreBytes, padded_length, padded_bytes, passed_bytes, bytes_pass}
 use proofs.{Lookups.place_law, Segments.segments_fit, Segments.room}
 use Rattle.w16_ne.specs.Resources as ne_resources
+use Rattle.w16_loading.specs.{declared.LoadRefusal.LoadRefusal, Refusals.OrRefused, Refusals.is_of_format}
 use Rattle.w16_loading.specs.File as loading
+use Rattle.w16_loading.specs.declared.LoadRefusal.TheVariants as refusals
 
 -- Resources.
 
@@ -30,38 +32,38 @@ are_contents file number (Ok t) all = subst (λ p. IfSome p (λ x. IsSomeAnd (C.
     turn None = tt
     turn (Some r) = (padded_length (take r.1.len (drop r.1.place file)) (C.rounded_size r.1.len), contents_bytes file r all)
 
-numbers_by : (a b : Bool) → (11 ≤ cond a 12 (cond b 13 14)) × (cond a 12 (cond b 13 14) ≤ 14)
-numbers_by true b = (omega arith, omega arith)
-numbers_by false true = (omega arith, omega arith)
-numbers_by false false = (omega arith, omega arith)
+of_format : (e : NeFault) → is_of_format (refusal_by_format e) ≡ true
+of_format (C.Target system) = by_system (C.nat_eq system 1) (C.nat_eq system 3)
+  where
+    by_system : (a b : Bool) → is_of_format (cond a refusals.ForOs2 (cond b refusals.ForDos4 refusals.ForOtherSystem)) ≡ true
+    by_system true b = refl
+    by_system false true = refl
+    by_system false false = refl
+of_format other = refl
 
-numbers : (e : NeFault) → (11 ≤ number_of e) × (number_of e ≤ 14)
-numbers (C.Target system) = numbers_by (C.nat_eq system 1) (C.nat_eq system 3)
-numbers other = (omega arith, omega arith)
-
-read_fits : (file : List ℕ) (r : Result Tables NeFault) → AreBytes file → tables_at (Some file) ≡ r → C.MatchResult (read_as file r) IsModuleFile (λ answer. (11 ≤ answer) × (answer ≤ 14))
+read_fits : (file : List ℕ) (r : Result Tables NeFault) → AreBytes file → tables_at (Some file) ≡ r → C.MatchResult (read_as file r) IsModuleFile (λ refusal. is_of_format refusal ≡ true)
 read_fits file (Ok t) all e = is_module_file file t all ((C.module_format file t).0 e)
-read_fits file (Err e) all same = numbers e
+read_fits file (Err e) all same = of_format e
 
 pub is_format : C.IsFormat ne_format
 is_format = record { files = λ file. files file (has_bytes file) refl; contents = λ file number. contents file number (has_bytes file) refl }
   where
-    files : (file : List ℕ) (b : Bool) → has_bytes file ≡ b → C.MatchResult (cond b (plain_format file) (Err 11)) IsModuleFile (λ answer. (11 ≤ answer) × (answer ≤ 14))
+    files : (file : List ℕ) (b : Bool) → has_bytes file ≡ b → C.MatchResult (cond b (plain_format file) (Err refusals.BadFile)) IsModuleFile (λ refusal. is_of_format refusal ≡ true)
     files file true e = read_fits file (tables_at (Some file)) (passed_bytes file e) refl
-    files file false e = (omega arith, omega arith)
+    files file false e = refl
 
     contents : (file : List ℕ) (number : ℕ) (b : Bool) → has_bytes file ≡ b
-        → IfOk (cond {A = Result ModuleFile ℕ} b (plain_format file) (Err 11)) (λ read. IfSome (C.numbered read.tables.resources number) (λ x. IsSomeAnd (ne_format.contents file number) (IsContent x)))
+        → IfOk (cond {A = OrRefused ModuleFile} b (plain_format file) (Err refusals.BadFile)) (λ read. IfSome (C.numbered read.tables.resources number) (λ x. IsSomeAnd (ne_format.contents file number) (IsContent x)))
     contents file number true e = are_contents file number (tables_at (Some file)) (passed_bytes file e)
     contents file number false e = tt
 
 pub plain : (file : List ℕ) → All (λ b. b < 256) file → ne_format.says file ≡ plain_format file
-plain file all = ap (λ b. cond b (plain_format file) (Err 11)) (bytes_pass file all)
+plain file all = ap (λ b. cond b (plain_format file) (Err refusals.BadFile)) (bytes_pass file all)
 
-ok_same : {x y : ModuleFile} → ◌≡◌ {A = Result ModuleFile ℕ} (Ok x) (Ok y) → x ≡ y
+ok_same : {x y : ModuleFile} → ◌≡◌ {A = OrRefused ModuleFile} (Ok x) (Ok y) → x ≡ y
 ok_same h = cc
 
-not_ok : {e : ℕ} {y : ModuleFile} → ◌≡◌ {A = Result ModuleFile ℕ} (Err e) (Ok y) → ⊥
+not_ok : {e : LoadRefusal} {y : ModuleFile} → ◌≡◌ {A = OrRefused ModuleFile} (Err e) (Ok y) → ⊥
 not_ok h = cc
 
 pub tables_apart : (t u : Tables) → tables_in t ≡ tables_in u → t ≡ u
@@ -71,7 +73,7 @@ tables_apart t u same = layout_code.inj t u (ap (λ (l : loading.Tables). l.layo
 pub read_back : (file : List ℕ) (read : ModuleFile) → ne_format.says file ≡ Ok read → All (λ b. b < 256) file × ((t : Tables) × (tables_at (Some file) ≡ Ok t) × (read ≡ module_file file t))
 read_back file read e = turn (has_bytes file) refl (tables_at (Some file)) refl e
   where
-    turn : (b : Bool) → has_bytes file ≡ b → (r : Result Tables NeFault) → tables_at (Some file) ≡ r → cond b (read_as file r) (Err 11) ≡ Ok read
+    turn : (b : Bool) → has_bytes file ≡ b → (r : Result Tables NeFault) → tables_at (Some file) ≡ r → cond b (read_as file r) (Err refusals.BadFile) ≡ Ok read
         → All (λ b. b < 256) file × ((t : Tables) × (tables_at (Some file) ≡ Ok t) × (read ≡ module_file file t))
     turn true pass (Ok t) f g = (passed_bytes file pass, (t, f, sym (ok_same g)))
     turn true pass (Err fault) f g = absurd (not_ok g)
@@ -86,7 +88,7 @@ stored_law world handle m t of_files there same = turn (file_of world.files m.fi
     said None = None
     said (Some file) = elim (ne_format.says file) [ Ok read ↦ Some read | Err _ ↦ None ]
 
-    by : (file : List ℕ) → file_of world.files m.file ≡ Some file → (r : Result ModuleFile ℕ) → ne_format.says file ≡ r
+    by : (file : List ℕ) → file_of world.files m.file ≡ Some file → (r : OrRefused ModuleFile) → ne_format.says file ≡ r
         → IsSomeAnd (elim r as (λ _. Option ModuleFile) [ Ok read ↦ Some read | Err _ ↦ None ]) (C.IsItsFiles m) → (file : List ℕ) × IsFileOf world m file t
     by file stored (Err _) e its = absurd its
     by file stored (Ok read) e its =
@@ -106,7 +108,7 @@ has_room file t k s h found =
 pub accepted : (file : List ℕ) (t : Tables) → All (λ b. b < 256) file → tables_at (Some file) ≡ Ok t → ne_format.says file ≡ Ok (module_file file t)
 accepted file t all h = plain file all ∙ ap (read_as file) h
 
-pub refused : (file : List ℕ) (e : NeFault) → All (λ b. b < 256) file → tables_at (Some file) ≡ Err e → ne_format.says file ≡ Err (number_of e)
+pub refused : (file : List ℕ) (e : NeFault) → All (λ b. b < 256) file → tables_at (Some file) ≡ Err e → ne_format.says file ≡ Err (refusal_by_format e)
 refused file e all h = plain file all ∙ ap (read_as file) h
 
 pub missing : tables_at None ≡ Err (Store C.Missing)

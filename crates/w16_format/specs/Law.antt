@@ -8,7 +8,7 @@ use Rattle.w16_reloc.specs.{declared.record.Record.Record, Segments.Held, Segmen
 use Rattle.w16_loading.specs.{Law.IsFormat, File.Far, File.numbered, Law.IsOfFiles, Modules.LoadingWorld, Modules.Module, Modules.module_at, Closure.are_sound, Fetch.segment_bytes, Fetch.resource_bytes}
 use specs.Tables.{segment_in, entry_in, resource_in, tables_in}
 use specs.Data.{data_in, contents_in, target_of, far_in, far_of}
-use specs.Ne.{module_file, number_of, ne_format, plain_format}
+use specs.Ne.{module_file, refusal_by_format, ne_format, plain_format}
 use Rattle.w16_reloc.specs.declared.value.Far as words
 use Rattle.w16_loading.specs.File as loading
 
@@ -51,7 +51,7 @@ abbrev pub AcceptedLaw : Type 0
 AcceptedLaw = (file : List ℕ) (t : Tables) → All (λ b. b < 256) file → tables_at (Some file) ≡ Ok t → ne_format.says file ≡ Ok (module_file file t)
 
 abbrev pub RefusedLaw : Type 0
-RefusedLaw = (file : List ℕ) (e : NeFault) → All (λ b. b < 256) file → tables_at (Some file) ≡ Err e → ne_format.says file ≡ Err (number_of e)
+RefusedLaw = (file : List ℕ) (e : NeFault) → All (λ b. b < 256) file → tables_at (Some file) ≡ Err e → ne_format.says file ≡ Err (refusal_by_format e)
 
 -- none is accepted where there is no file
 abbrev pub MissingLaw : Type 0

@@ -3,7 +3,8 @@ use Rattle.std.specs.Prelude.{ℕ, Bool, nat_le, nat_lt, List, [], length, map, 
 use Rattle.std.specs.List.{list_all}
 use Rattle.w16_ne.specs.{declared.fault.NeFault.NeFault, declared.fault.NeFault.TheVariants.Target, Modules.Tables, Modules.tables_at, Modules.resource_at}
 use Rattle.w16_reloc.specs.{declared.fault.RelocFault.RelocFault, declared.record.Record.Record, Check.check_from, Naming.image_of, Segments.any_offer}
-use Rattle.w16_loading.specs.File.{Far, Saying, Format, ModuleFile}
+use Rattle.w16_loading.specs.declared.LoadRefusal.TheVariants.{BadFile, ForOs2, ForDos4, ForOtherSystem}
+use Rattle.w16_loading.specs.{Refusals.OrRefused, declared.LoadRefusal.LoadRefusal, File.Far, File.Saying, File.Format, File.ModuleFile}
 use Rattle.w16_format.specs.{Tables.tables_in, Data.data_in, Data.contents_in, Data.far_in}
 
 abbrev pub module_file : List ℕ → Tables → ModuleFile
@@ -16,15 +17,15 @@ abbrev pub content_at : List ℕ → ℕ → Result Tables NeFault → Option (L
 content_at file number (Ok t) = option_map (contents_in file) (resource_at t.resources number)
 content_at file number (Err e) = None
 
--- the number that a load answers for a fault (profile)
-abbrev pub number_of : NeFault → ℕ
-number_of (Target system) = if system == 1 then 12 else (if system == 3 then 13 else 14)
-number_of other = 11
+-- why a load is refused for a fault (profile)
+abbrev pub refusal_by_format : NeFault → LoadRefusal
+refusal_by_format (Target system) = if system == 1 then ForOs2 else (if system == 3 then ForDos4 else ForOtherSystem)
+refusal_by_format other = BadFile
 
 -- of bytes
-abbrev pub read_as : List ℕ → Result Tables NeFault → Result ModuleFile ℕ
+abbrev pub read_as : List ℕ → Result Tables NeFault → OrRefused ModuleFile
 read_as file (Ok t) = Ok (module_file file t)
-read_as file (Err e) = Err (number_of e)
+read_as file (Err e) = Err (refusal_by_format e)
 
 abbrev pub plain_format : Saying
 plain_format file = read_as file (tables_at (Some file))
@@ -40,7 +41,7 @@ written source values size (Err e) = None
 
 abbrev pub ne_format : Format
 ne_format = record {
-  says = λ file. if has_bytes file then plain_format file else Err 11;
+  says = λ file. if has_bytes file then plain_format file else Err BadFile;
   contents = λ file number. content_at file number (tables_at (Some file));
   relocated = λ t source table values size. written source values size (check_from (any_offer (length t.segments) (length t.references)) source table (length values) 0 []);
 }

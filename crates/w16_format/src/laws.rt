@@ -2,7 +2,7 @@
 ghost use Rattle.w16_format.specs.Law.{AcceptedLaw, ApartLaw, EntryLaw, FormatLaw, MissingLaw, NameLaw, PlaceLaw, PlainLaw, RefusedLaw, RelocatedLaw, ResourceBytesLaw, RoomLaw, SegmentBytesLaw, SegmentLaw, SoundLaw, StoredLaw, WordsLaw};
 ghost use Rattle.w16_format.specs.Samples.{SamplesLaw};
 
-/// NE files are a format as loading asks it: sizes and images go together, and refusals are numbers of files.
+/// NE files are a format as loading asks it: sizes and images go together, and each refusal is one that a format may give.
 pub fn ne_files_are_a_format()
     ensures { FormatLaw }
 {}

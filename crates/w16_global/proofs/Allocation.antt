@@ -7,7 +7,7 @@ use Rattle.std.specs.FinMap as finmap
 
 -- Where no run of slots is free, a new object is refused.
 pub refuses_slots : (w v : Handles) → v ≡ record w { moved = 0 } → (flags size : ℕ) (new : Handles) → HasNoRun v (slots_for (rounded_size size)) → new ≡ v → GlobalAllocs w flags size 0 new
-refuses_slots w v v_is flags size new none same = inl (inr (inr (inl (subst (λ (x : Handles). HasNoRun x (slots_for (rounded_size size))) v_is none))), refl, same ∙ v_is)
+refuses_slots w v v_is flags size new none same = inl (inr (inr (inl (subst (λ x. HasNoRun x (slots_for (rounded_size size))) v_is none))), refl, same ∙ v_is)
 
 -- What GlobalAlloc answers, from handles in which nothing was moved last.
 module _ (w : Handles) (flags slot size : ℕ) (new : Handles) (free : IsFreeRun w slot (slots_for (rounded_size size))) where

@@ -13,21 +13,21 @@ kind_says : (holds : SelKind) (number : ℕ) (old new : Heap) (slot : ℕ) (o : 
 kind_says holds number old new slot o kind there c q = elim (cases_eq q slot) [
   | inl e ↦ ap (option_map (descriptor_for new holds number q)) (ap (object_at new) e ∙ c.object) ∙ placed o.bytes
       ∙ sym (ap (option_map (descriptor_for old holds number q)) (ap (object_at old) e ∙ there))
-  | inr d ↦ same_described holds number old new q (c.others q d) (ap (λ (places : FinMap nat_cmp ℕ). finmap.get places q) c.places)
+  | inr d ↦ same_described holds number old new q (c.others q d) (ap (λ places. finmap.get places q) c.places)
 ]
   where
     placed : (b : Option (List ℕ)) → ◌≡◌ {A = Option Descriptor} (Some (elim b as (λ _. Descriptor) [ None ↦ unset holds number | Some bytes ↦ reaching holds (unwrap_or (finmap.get new.places q) 0) (length bytes) number ]))
         (Some (elim b as (λ _. Descriptor) [ None ↦ unset holds number | Some bytes ↦ reaching holds (unwrap_or (finmap.get old.places q) 0) (length bytes) number ]))
     placed None = refl
-    placed (Some bytes) = ap (λ (places : FinMap nat_cmp ℕ). Some (reaching holds (unwrap_or (finmap.get places q) 0) (length bytes) number)) c.places
+    placed (Some bytes) = ap (λ places. Some (reaching holds (unwrap_or (finmap.get places q) 0) (length bytes) number)) c.places
 
 -- an object that gave up its bytes leaves what the selectors of others say
 others_say : (holds : SelKind) (number : ℕ) (heap : Heap) (slot q : ℕ) → q ≢ slot → says (absent heap slot) holds number q ≡ says heap holds number q
-others_say holds number heap slot q other = same_described holds number heap (absent heap slot) q (get-update_other heap.objects slot (λ (o : Object). record o { bytes = None }) q other) (taken_other heap.places slot q other)
+others_say holds number heap slot q other = same_described holds number heap (absent heap slot) q (get-update_other _ slot (λ o. record o { bytes = None }) q other) (taken_other _ slot q other)
 
 -- the heap that is left
 modified_is : (heap new : Heap) (slot : ℕ) (kind : Kind) → after_modify heap slot kind ≡ Ok new → modified heap slot kind ≡ new
-modified_is heap new slot kind done = ap (λ (r : Result Heap Refusal). elim r as (λ _. Heap) [ Ok new ↦ new | Err _ ↦ heap ]) done
+modified_is heap new slot kind done = ap (λ r. elim r as (λ _. Heap) [ Ok new ↦ new | Err _ ↦ heap ]) done
 
 module _ {h : Holding} {xs : List (Option Attributes)} {t : selectors.DescriptorTable} (are : AreJoined h xs t) (new : Holding) (cap : new.cap ≡ h.cap) (slot : ℕ) where
   -- another heap under the same attributes

@@ -117,12 +117,12 @@ module _ (holds : C.SelKind) (number : ℕ) (heap : Heap) (slot : ℕ) where
 
 -- another heap with the same object and address at a slot
 pub same_described : (holds : C.SelKind) (number : ℕ) (heap new : Heap) (q : ℕ) → object_at new q ≡ object_at heap q → finmap.get new.places q ≡ finmap.get heap.places q → says new holds number q ≡ says heap holds number q
-same_described holds number heap new q object place = ap (option_map (descriptor_for new holds number q)) object ∙ mapped (object_at heap q)
+same_described holds number heap new q object place = ap (option_map _) object ∙ mapped _
   where
     based : (b : Option (List ℕ)) → ◌≡◌ {A = Option Descriptor} (Some (elim b as (λ _. Descriptor) [ None ↦ unset holds number | Some bytes ↦ reaching holds (unwrap_or (finmap.get new.places q) 0) (length bytes) number ]))
         (Some (elim b as (λ _. Descriptor) [ None ↦ unset holds number | Some bytes ↦ reaching holds (unwrap_or (finmap.get heap.places q) 0) (length bytes) number ]))
     based None = refl
-    based (Some bytes) = ap (λ (a : Option ℕ). Some (reaching holds (unwrap_or a 0) (length bytes) number)) place
+    based (Some bytes) = ap (λ a. Some (reaching holds (unwrap_or a 0) (length bytes) number)) place
 
     mapped : (p : Option Object) → option_map (descriptor_for new holds number q) p ≡ option_map (descriptor_for heap holds number q) p
     mapped None = refl

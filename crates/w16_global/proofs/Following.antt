@@ -25,7 +25,7 @@ record Found (heap : Heap) (slot at size : ℕ) : Type 0 where
   pub stands : finmap.get heap.places slot ≡ Some at
 
 found_at : (heap : Heap) (slot at size : ℕ) → option_map (length {A = ℕ}) (bytes_at heap slot) ≡ Some size → finmap.get heap.places slot ≡ Some at → Found heap slot at size
-found_at heap slot at size sized stands = of_object (object_at heap slot) refl sized
+found_at heap slot at size sized stands = of_object _ refl sized
   where
     of_bytes : (o : Object) → object_at heap slot ≡ Some o → (b : Option (List ℕ)) → o.bytes ≡ b → option_map (length {A = ℕ}) b ≡ Some size → Found heap slot at size
     of_bytes o there None has h = cc
@@ -49,7 +49,7 @@ one_place : (heap : Heap) → C.IsHeap heap → (slot other at size place more :
 one_place heap is slot other at size place more some from to f g n =
     let x = block_for heap slot at size f in
     let y = block_for heap other place more g in
-    let apart : C.Misses x.0.at x.0.size y.0.at (C.block_end y.0) = C.two_placed heap is x.0 y.0 x.1 y.1 (λ e. n (ap (λ (b : Block). b.id) (sym e))) in
+    let apart = C.two_placed heap is x.0 y.0 x.1 y.1 (λ e. n (ap (λ b. b.id) (sym e))) in
     elim apart [ inl before ↦ omega arith | inr behind ↦ omega arith ]
 
 module _ (h : C.Holding) (xs : List (Option C.Attributes)) (is : C.AreHandles (C.handles_of h xs 0)) (old : selectors.DescriptorTable) (are : C.AreLabelled xs old) where

@@ -10,16 +10,16 @@ use Rattle.w16_selectors.specs.Descriptors as selectors
 
 -- a slot gets some
 pub attributes_set : (xs : List (Option Attributes)) (slot : ℕ) (a : Attributes) → slot < length xs → attributes_in (set xs slot (Some a)) ≡ finmap.insert (attributes_in xs) slot a
-attributes_set xs slot a lt = C.same_map C.nat_cmp_total C.nat_cmp-IsAntisymmetric (attributes_in (set xs slot (Some a))) (finmap.insert (attributes_in xs) slot a) (λ q. elim (cases_eq q slot) [
-  | inl e ↦ attributes_at (set xs slot (Some a)) q ∙ ap (λ k. get_or (set xs slot (Some a)) k None) e ∙ get_or-set_same xs slot (Some a) None lt ∙ sym (C.inserted_here (attributes_in xs) slot a q e)
-  | inr d ↦ attributes_at (set xs slot (Some a)) q ∙ get_or-set_other xs slot q (Some a) None d ∙ sym (attributes_at xs q) ∙ sym (C.inserted_other (attributes_in xs) slot a q d)
+attributes_set xs slot a lt = C.same_map C.nat_cmp_total C.nat_cmp-IsAntisymmetric _ _ (λ q. elim (cases_eq q slot) [
+  | inl e ↦ attributes_at (set xs slot _) q ∙ ap (λ k. get_or (set xs slot (Some a)) k None) e ∙ get_or-set_same xs slot _ None lt ∙ sym (C.inserted_here _ slot a q e)
+  | inr d ↦ attributes_at _ q ∙ get_or-set_other xs slot q _ None d ∙ sym (attributes_at xs q) ∙ sym (C.inserted_other _ slot a q d)
 ])
 
 -- a slot loses its own
 pub attributes_unset : (xs : List (Option Attributes)) (slot : ℕ) → slot < length xs → attributes_in (set xs slot None) ≡ finmap.remove (attributes_in xs) slot
-attributes_unset xs slot lt = C.same_map C.nat_cmp_total C.nat_cmp-IsAntisymmetric (attributes_in (set xs slot None)) (finmap.remove (attributes_in xs) slot) (λ q. elim (cases_eq q slot) [
-  | inl e ↦ attributes_at (set xs slot None) q ∙ ap (λ k. get_or (set xs slot None) k None) e ∙ get_or-set_same xs slot None None lt ∙ sym (C.taken_here (attributes_in xs) slot q e)
-  | inr d ↦ attributes_at (set xs slot None) q ∙ get_or-set_other xs slot q None None d ∙ sym (attributes_at xs q) ∙ sym (C.taken_other (attributes_in xs) slot q d)
+attributes_unset xs slot lt = C.same_map C.nat_cmp_total C.nat_cmp-IsAntisymmetric _ _ (λ q. elim (cases_eq q slot) [
+  | inl e ↦ attributes_at (set xs slot None) q ∙ ap (λ k. get_or (set xs slot None) k None) e ∙ get_or-set_same xs slot None None lt ∙ sym (C.taken_here _ slot q e)
+  | inr d ↦ attributes_at _ q ∙ get_or-set_other xs slot q None None d ∙ sym (attributes_at xs q) ∙ sym (C.taken_other _ slot q d)
 ])
 
 -- what modules own has a size, where a slot gets such attributes

@@ -7,15 +7,15 @@ use Rattle.w16_model.specs.CallLaws.{ReallocFewest}
 use Rattle.w16_global.specs.Lengthened.{Lengthens}
 
 -- the handle of a slot's object
-handle_is : (v : Handles) (slot handle : ℕ) → slot_of_handle v handle ≡ Some slot → unwrap_or (option_map (λ (o : Object). handle_of o.kind slot) (object_at v.heap slot)) 0 ≡ handle
-handle_is v slot handle found = turn (object_at v.heap slot) ((names_law v handle slot).0.0 found)
+handle_is : (v : Handles) (slot handle : ℕ) → slot_of_handle v handle ≡ Some slot → unwrap_or (option_map (λ o. handle_of o.kind slot) (object_at v.heap slot)) 0 ≡ handle
+handle_is v slot handle found = turn _ ((names_law v handle slot).0.0 found)
   where
-    turn : (p : Option Object) → IsSomeAnd p (λ o. handle ≡ handle_of o.kind slot) → unwrap_or (option_map (λ (o : Object). handle_of o.kind slot) p) 0 ≡ handle
+    turn : (p : Option Object) → IsSomeAnd p (λ o. handle ≡ handle_of o.kind slot) → unwrap_or (option_map (λ o. handle_of o.kind slot) p) 0 ≡ handle
     turn None h = absurd h
     turn (Some o) h = sym h
 
 -- told of whatever handle the slot's object has
-pub lengthened : (old new : Global) (slot size flags answer own : ℕ) → own ≡ unwrap_or (option_map (λ (o : Object). handle_of o.kind slot) (object_at old.handles.heap slot)) 0 → (left : Handles) → GlobalReAllocs old.handles own size flags answer left
+pub lengthened : (old new : Global) (slot size flags answer own : ℕ) → own ≡ unwrap_or (option_map (λ o. handle_of o.kind slot) (object_at old.handles.heap slot)) 0 → (left : Handles) → GlobalReAllocs old.handles own size flags answer left
     → ReallocFewest old.handles own size flags answer left → new.handles ≡ record left { moved = old.handles.moved } → new.written ≡ counted (counted old.written left.moved) (zeroed_behind old.handles own size flags answer)
     → (handle : ℕ) → slot_of_handle old.handles handle ≡ Some slot → Lengthens old handle size flags answer new
 lengthened old new slot size flags answer own own_is left step fewest handles written handle named =

@@ -52,16 +52,16 @@ pub lent_shown : (h : Holding) (xs : List (Option Attributes)) (m : ℕ) {g : Gl
     → (lent : Lends h.heap slot done) × (new ≡ record h { heap = after_write h.heap slot 0 lent.after; written = counted h.written (length lent.bytes) })
     → (lent : Lends g.handles.heap slot done) × (global_of new xs m ≡ record g { handles = record g.handles { heap = after_write g.handles.heap slot 0 lent.after }; written = counted g.written (length lent.bytes) })
 lent_shown h xs m shown slot done new said =
-    subst (λ (g : Global). (lent : Lends g.handles.heap slot done) × (global_of new xs m ≡ record g { handles = record g.handles { heap = after_write g.handles.heap slot 0 lent.after }; written = counted g.written (length lent.bytes) }))
+    subst (λ g. (lent : Lends g.handles.heap slot done) × (global_of new xs m ≡ record g { handles = record g.handles { heap = after_write g.handles.heap slot 0 lent.after }; written = counted g.written (length lent.bytes) }))
     shown (said.0, ap (λ k. global_of k xs m) said.1)
 
 -- The handles with an object's bytes rewritten are some, and the selectors are right.
 pub lent_joined : {h : Holding} {xs : List (Option Attributes)} {t : selectors.DescriptorTable} → AreJoined h xs t → (new : Holding) (slot : ℕ) (done : List ℕ → List ℕ → Type 0) (lent : Lends h.heap slot done)
     {count : ℕ} → new ≡ record h { heap = after_write h.heap slot 0 lent.after; written = count } → AreJoined new xs t
-lent_joined {h} {xs} {t} are new slot done lent {count} said = of_object (C.object_at h.heap slot) refl lent.had
+lent_joined {h} {xs} {t} are new slot done lent {count} said = of_object _ refl lent.had
   where
     of_object : (p : Option C.Object) → C.object_at h.heap slot ≡ p → (elim p as (λ _. Option (List ℕ)) [ Some o ↦ o.bytes | None ↦ None ]) ≡ Some lent.bytes → AreJoined new xs t
     of_object None there has = cc
     of_object (Some o) there has =
         let long = lent.long in
-        subst (λ k. AreJoined k xs t) (sym said) (written_joined are slot 0 lent.after lent.bytes o there has (omega (arith, long)) lent.are_bytes count)
+        subst (λ k. AreJoined k xs t) (sym said) (written_joined are slot 0 _ _ o there has (omega (arith, long)) lent.are_bytes count)

@@ -16,6 +16,6 @@ there None e = e
 
 pub ordered_below : (w : Handles) (is : AreHandles w) (i slot : ℕ) → slice_get w.heap.order i ≡ Some slot → slot < 8192
 ordered_below w is i slot e =
-    let in_order = sym (is.heap.in_order slot) ∙ true-is_member slot w.heap.order (place_member w.heap.order i slot e) in
-    let run = run_there w is slot (there (object_at w.heap slot) in_order) in
+    let in_order = sym (is.heap.in_order slot) ∙ true-is_member slot w.heap.order (place_member _ i slot e) in
+    let run = run_there w is slot (there _ in_order) in
     omega (arith, run.1, run.2)

@@ -16,13 +16,13 @@ nothing (Some x) h = absurd (false≢true (sym h))
 
 -- the handles of what a value shows
 pub handles_shown : {shown g : C.Global} → shown ≡ g → shown.handles ≡ g.handles
-handles_shown e = ap (λ (g : C.Global). g.handles) e
+handles_shown e = ap (λ g. g.handles) e
 
 -- a slot's attributes are those of the list
 pub attributes_at : (xs : List (Option Attributes)) (slot : ℕ) → finmap.get (attributes_in xs) slot ≡ get_or xs slot None
-attributes_at xs slot = C.get-by_id (λ _ (a : Attributes). a) xs slot ∙ same (get_or xs slot None)
+attributes_at xs slot = C.get-by_id (λ _ a. a) xs slot ∙ same _
   where
-    same : (o : Option Attributes) → option_map (λ (a : Attributes). a) o ≡ o
+    same : (o : Option Attributes) → option_map (λ a. a) o ≡ o
     same None = refl
     same (Some a) = refl
 
@@ -93,11 +93,11 @@ label_for heap holds number first o = of_bytes o.bytes
 
 -- a heap that is the same to selectors
 pub same_said : (xs : List (Option Attributes)) (heap new : Heap) → ((holds : SelKind) (number first : ℕ) → says new holds number first ≡ says heap holds number first) → (q : ℕ) → described new xs q ≡ described heap xs q
-same_said xs heap new same q = of_owner (owner_in xs q)
+same_said xs heap new same q = of_owner _
   where
     of_owner : (p : Option ℕ) → ◌≡◌ {A = Option Descriptor} (elim p [ None ↦ None | Some first ↦ says new (kind_in xs first) (q - first) first ]) (elim p [ None ↦ None | Some first ↦ says heap (kind_in xs first) (q - first) first ])
     of_owner None = refl
-    of_owner (Some first) = same (kind_in xs first) (q - first) first
+    of_owner (Some first) = same _ _ first
 
 -- A selector says no more than where its object's bytes begin, and how many they are.
 abbrev pub size_in : Option Object → Option (Option ℕ)
@@ -105,7 +105,7 @@ size_in p = option_map (λ (o : Object). option_map (length {A = ℕ}) o.bytes) 
 
 says_by : (heap : Heap) (holds : SelKind) (number first : ℕ) → says heap holds number first
     ≡ option_map (λ s. elim s as (λ _. Descriptor) [ None ↦ unset holds number | Some size ↦ reaching holds (unwrap_or (finmap.get heap.places first) 0) size number ]) (size_in (object_at heap first))
-says_by heap holds number first = of_object (object_at heap first)
+says_by heap holds number first = of_object _
   where
     told : Option ℕ → Descriptor
     told s = elim s [ None ↦ unset holds number | Some size ↦ reaching holds (unwrap_or (finmap.get heap.places first) 0) size number ]

@@ -17,7 +17,7 @@ own_size {xs = xs} are shown slot owned is = turn (C.get_or xs slot None) (ap C.
   where
     turn : (p : Option Attributes) → C.owned_in p ≡ Some owned → C.HasSize p → (0 < owned.size) × IsMultiple GRAIN owned.size × (owned.size ≤ REACH)
     turn None e h = cc
-    turn (Some a) e h = subst (λ p. IfSome p (λ (o : Owned). (0 < o.size) × IsMultiple GRAIN o.size × (o.size ≤ REACH))) e h.1
+    turn (Some a) e h = subst (λ p. IfSome p (λ o. (0 < o.size) × IsMultiple GRAIN o.size × (o.size ≤ REACH))) e h.1
 
 -- nothing was moved, and so nothing written
 pub none_written : (count : ℕ) (heap : Heap) → count ≡ counted count (moved_bytes heap heap)
@@ -25,7 +25,7 @@ none_written count heap = sym (counted_none count) ∙ ap (counted count) (sym (
 
 -- no bytes, by the size that is looked up
 pub absent_in : (h : Holding) (xs : List (Option Attributes)) {m : ℕ} {w : Handles} → handles_of h xs m ≡ w → (slot : ℕ) (size : Option ℕ) → size ≡ C.option_map (length {A = ℕ}) (bytes_at h.heap slot) → false ≡ is_some size → bytes_at w.heap slot ≡ None
-absent_in h xs shown slot size size_is none = sym (ap (λ (v : Handles). bytes_at v.heap slot) shown) ∙ turn (bytes_at h.heap slot) (none ∙ ap is_some size_is)
+absent_in h xs shown slot size size_is none = sym (ap (λ v. bytes_at v.heap slot) shown) ∙ turn _ (none ∙ ap is_some size_is)
   where
     turn : (b : Option (List ℕ)) → false ≡ is_some (C.option_map (length {A = ℕ}) b) → b ≡ None
     turn None e = refl

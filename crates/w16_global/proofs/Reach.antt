@@ -19,7 +19,7 @@ handed_on P (Err f) e h p = subst P (sym h) p
 
 -- where there is none there is none of a read
 pub no_fault : (w : C.Handles) (write : Bool) (selector offset n : ℕ) → access_fault w write selector offset n ≡ None → (far_fault w selector offset n ≡ None) × ((write && C.refuses_write w selector) ≡ false)
-no_fault w write selector offset n = turn (write && C.refuses_write w selector)
+no_fault w write selector offset n = turn _
   where
     turn : (b : Bool) → (if b then Some ReadOnly else far_fault w selector offset n) ≡ None → (far_fault w selector offset n ≡ None) × (b ≡ false)
     turn true e = cc
@@ -48,8 +48,8 @@ code_kind true = refl
 code_kind false = refl
 
 code_is : (h : C.Holding) (xs : List (Option C.Attributes)) (m first : ℕ) → handles_is_code (handles_of h xs m) first ≡ is_code (kind_in xs first)
-code_is h xs m first = ap (λ p. unwrap_or (option_map (λ (o : Owned). o.code) (C.owned_in p)) false) (attributes_at xs first)
-    ∙ sym (code_kind (unwrap_or (option_map (λ (o : Owned). o.code) (C.owned_in (C.get_or xs first None))) false))
+code_is h xs m first = ap (λ p. unwrap_or (option_map (λ o. o.code) (C.owned_in p)) false) (attributes_at xs first)
+    ∙ sym (code_kind (unwrap_or (option_map (λ o. o.code) (C.owned_in (C.get_or xs first None))) false))
 
 module _ {h : C.Holding} {xs : List (Option C.Attributes)} {t : selectors.DescriptorTable} {m : ℕ} {w : C.Handles} (are : C.AreJoined h xs t) (shown : handles_of h xs m ≡ w) (selector : ℕ) where
   -- what a selector reaches, by its slot's number

@@ -77,8 +77,8 @@ module _ (old : Heap) (is : C.IsHeap old) (id n : ℕ) (options : RoomOptions) (
 -- the object that gets a run
 pub known_gets : (h : Holding) (xs : List (Option Attributes)) {m : ℕ} {w : Handles} → handles_of h xs m ≡ w → (slot count n first : ℕ) (options : RoomOptions) → count ≡ slots_for n → IsSomeAnd (object_at w.heap slot) (λ o. GetsRun w slot o options count first)
     → (o : Object) × (object_at h.heap slot ≡ Some o) × GetsRun (handles_of h xs 0) slot o options (slots_for n) first
-known_gets h xs {m} shown slot count n first options same gets = turn (object_at h.heap slot) refl (subst (λ k. IsSomeAnd (object_at h.heap slot) (λ o. GetsRun (handles_of h xs m) slot o options k first)) same
-    (subst (λ (v : Handles). IsSomeAnd (object_at v.heap slot) (λ o. GetsRun v slot o options count first)) (sym shown) gets))
+known_gets h xs {m} shown slot count n first options same gets = turn _ refl (subst (λ k. IsSomeAnd (object_at h.heap slot) (λ o. GetsRun (handles_of h xs m) slot o options k first)) same
+    (subst (λ v. IsSomeAnd (object_at v.heap slot) (λ o. GetsRun v slot o options count first)) (sym shown) gets))
   where
     turn : (p : Option Object) → object_at h.heap slot ≡ p → IsSomeAnd p (λ o. GetsRun (handles_of h xs 0) slot o options (slots_for n) first) → (o : Object) × (object_at h.heap slot ≡ Some o) × GetsRun (handles_of h xs 0) slot o options (slots_for n) first
     turn None e g = absurd g
@@ -93,10 +93,10 @@ if_none (Some x) P holds = tt
 pub lacks_place : (h : Holding) (xs : List (Option Attributes)) {m : ℕ} {w : Handles} → handles_of h xs m ≡ w → (slot count n first : ℕ) (options : RoomOptions) → count ≡ slots_for n → IsSomeAnd (object_at w.heap slot) (λ o. GetsRun w slot o options count first)
     → (made : Heap) → Reallocates h.heap slot n options false made
     → IsSomeAnd (object_at w.heap slot) (λ o. C.LacksRun w slot o options (slots_for n) ⊎ ((first : ℕ) × GetsRun w slot o options (slots_for n) first × Reallocates w.heap slot n options false w.heap))
-lacks_place h xs {w = w} shown slot count n first options same gets made refused = turn (object_at w.heap slot) (subst (λ k. IsSomeAnd (object_at w.heap slot) (λ o. GetsRun w slot o options k first)) same gets)
+lacks_place h xs {w = w} shown slot count n first options same gets made refused = turn _ (subst (λ k. IsSomeAnd (object_at w.heap slot) (λ o. GetsRun w slot o options k first)) same gets)
   where
     unchanged : Reallocates w.heap slot n options false w.heap
-    unchanged = subst (λ (v : Handles). Reallocates v.heap slot n options false v.heap) shown (subst (Reallocates h.heap slot n options false) ((C.one_outcome_law h.heap made slot n options refused).0) refused)
+    unchanged = subst (λ v. Reallocates v.heap slot n options false v.heap) shown (subst (Reallocates h.heap slot n options false) ((C.one_outcome_law h.heap made slot n options refused).0) refused)
 
     turn : (p : Option Object) → IsSomeAnd p (λ o. GetsRun w slot o options (slots_for n) first)
         → IsSomeAnd p (λ o. C.LacksRun w slot o options (slots_for n) ⊎ ((first : ℕ) × GetsRun w slot o options (slots_for n) first × Reallocates w.heap slot n options false w.heap))

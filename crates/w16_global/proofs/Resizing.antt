@@ -12,7 +12,7 @@ use Rattle.w16_model.specs.declared.Refusal.TheVariants as refusals
 
 -- a change of kind moves nothing
 modified_unmoved : (heap : Heap) (slot : ℕ) (kind : Kind) → moved_bytes heap (modified heap slot kind) ≡ 0
-modified_unmoved heap slot kind = C.unmoved heap (modified heap slot kind) (turn (object_at heap slot))
+modified_unmoved heap slot kind = C.unmoved heap (modified heap slot kind) (turn _)
   where
     test : (o : Object) (b : Bool) → (elim (cond {A = Result Heap Refusal} b (Err refusals.Fixed)
         (Ok (C.with_ordered heap slot (record o { kind = kind }) (λ order. cond {A = List ℕ} (is_discardable o.kind && is_discardable kind) order (C.with_newest slot (record o { kind = kind }) order)))))
@@ -26,13 +26,13 @@ modified_unmoved heap slot kind = C.unmoved heap (modified heap slot kind) (turn
           (Ok (C.with_ordered heap slot (record o { kind = kind }) (λ order. cond {A = List ℕ} (is_discardable o.kind && is_discardable kind) order (C.with_newest slot (record o { kind = kind }) order))))
     ]) as (λ _. Heap) [ Ok new ↦ new | Err _ ↦ heap ]).places ≡ heap.places
     turn None = refl
-    turn (Some o) = test o (is_fixed o.kind || is_fixed kind)
+    turn (Some o) = test o _
 
 -- nor does a discard
 discard_unmoved : (heap new : Heap) (slot : ℕ) → after_discard heap slot ≡ Ok new → moved_bytes heap new ≡ 0
 discard_unmoved heap new slot done = ap (moved_bytes heap) (C.discard_absent heap new slot done) ∙ C.none_moved heap (C.absent heap slot) (λ q. elim (C.cases_eq q slot) [
-  | inl e ↦ inr (C.taken_here heap.places slot q e)
-  | inr other ↦ inl (C.taken_other heap.places slot q other)
+  | inl e ↦ inr (C.taken_here _ slot q e)
+  | inr other ↦ inl (C.taken_other _ slot q other)
 ])
 
 -- What a size of 0 answers for an object that was discarded, where nothing was moved last.
@@ -40,23 +40,23 @@ pub empties_ok : (v : Handles) → v.moved ≡ 0 → (handle slot flags : ℕ) (
     → Empties v handle slot flags handle new
 empties_ok v still handle slot flags new moveable done rest =
     subst (λ m. MatchBool m (AnswersDiscard v handle handle new (after_discard v.heap slot)) (IsNull v handle new)) (sym moveable)
-    (subst (AnswersDiscard v handle handle new) (sym done) (refl, rest ∙ (λ i. record v { heap = new.heap; moved = (still ∙ sym (discard_unmoved v.heap new.heap slot done)) i })))
+    (subst (AnswersDiscard v handle handle new) (sym done) (refl, rest ∙ (λ i. record v { heap = new.heap; moved = (still ∙ sym (discard_unmoved v.heap _ slot done)) i })))
 
 -- nor is one that is answered, where the object has a run
 answer_some : (kind : Kind) (first : ℕ) → (handle_of kind first == 0) ≡ false
-answer_some kinds.Fixed first = ne_eqb (handle_of kinds.Fixed first) 0 (λ e. omega (arith, e))
-answer_some kinds.Moveable first = ne_eqb (handle_of kinds.Moveable first) 0 (λ e. omega (arith, e))
-answer_some kinds.Discardable first = ne_eqb (handle_of kinds.Discardable first) 0 (λ e. omega (arith, e))
+answer_some kinds.Fixed first = ne_eqb _ 0 (λ e. omega (arith, e))
+answer_some kinds.Moveable first = ne_eqb _ 0 (λ e. omega (arith, e))
+answer_some kinds.Discardable first = ne_eqb _ 0 (λ e. omega (arith, e))
 
 -- the handle that an object has then
 answered : (v : Handles) → C.AreHandles v → (slot n : ℕ) (options : RoomOptions) (o : Object) → object_at v.heap slot ≡ Some o → (first : ℕ) → GetsRun v slot o options (slots_for n) first → (heap : Heap) → Reallocates v.heap slot n options true heap
-    → unwrap_or (option_map (λ (o : Object). handle_of o.kind first) (object_at (C.rehoused heap slot first) first)) 0 ≡ handle_of o.kind first
+    → unwrap_or (option_map (λ o. handle_of o.kind first) (object_at (C.rehoused heap slot first) first)) 0 ≡ handle_of o.kind first
 answered v is slot n options o there first gets heap r = ap
-    (λ (p : Option Object). unwrap_or (option_map (λ (o : Object). handle_of o.kind first) p) 0)
+    (λ p. unwrap_or (option_map (λ o. handle_of o.kind first) p) 0)
     (housed_first v is slot n options o there first gets heap r) ∙ turn (object_at heap slot)
     (keeps v is slot n options o there first gets heap r).object
   where
-    turn : (p : Option Object) → IsSomeAnd p (C.IsResized options.zero n o) → unwrap_or (option_map (λ (o : Object). handle_of o.kind first) p) 0 ≡ handle_of o.kind first
+    turn : (p : Option Object) → IsSomeAnd p (C.IsResized options.zero n o) → unwrap_or (option_map (λ o. handle_of o.kind first) p) 0 ≡ handle_of o.kind first
     turn None f = absurd f
     turn (Some p) f = ap (λ k. handle_of k first) f.kind
 
@@ -150,19 +150,19 @@ module _ (w v : Handles) (v_is : v ≡ record w { moved = 0 }) (handle size flag
 
 -- GlobalDiscard moves nothing,
 discards_unmoved : (old : Handles) (handle answer : ℕ) (new : Handles) → C.GlobalDiscards old handle answer new → new.moved ≡ 0
-discards_unmoved old handle answer new step = by_owner (owns old handle) step
+discards_unmoved old handle answer new step = by_owner _ step
   where
     by_answer : (slot : ℕ) (r : Result Heap Refusal) → after_discard old.heap slot ≡ r → AnswersDiscard old handle answer new r → new.moved ≡ 0
-    by_answer slot (Ok heap) e again = ap (λ (x : Handles). x.moved) again.1 ∙ discard_unmoved old.heap heap slot e
-    by_answer slot (Err refusal) e null = ap (λ (x : Handles). x.moved) null.1
+    by_answer slot (Ok heap) e again = ap (λ x. x.moved) again.1 ∙ discard_unmoved _ heap slot e
+    by_answer slot (Err refusal) e null = ap (λ x. x.moved) null.1
 
     turn : (p : Option ℕ) → C.MatchOption p (IsNull old answer new) (λ slot. AnswersDiscard old handle answer new (after_discard old.heap slot)) → new.moved ≡ 0
-    turn None null = ap (λ (x : Handles). x.moved) null.1
-    turn (Some slot) g = by_answer slot (after_discard old.heap slot) refl g
+    turn None null = ap (λ x. x.moved) null.1
+    turn (Some slot) g = by_answer slot _ refl g
 
     by_owner : (b : Bool) → MatchBool b (IsNull old answer new) (ReAllocsOwn old handle 0 GMEM_MOVEABLE answer new) → new.moved ≡ 0
-    by_owner true null = ap (λ (x : Handles). x.moved) null.1
-    by_owner false own = turn (slot_of_handle old handle) own
+    by_owner true null = ap (λ x. x.moved) null.1
+    by_owner false own = turn _ own
 
 -- to count none changes no count
 pub counted_none : (count : ℕ) → counted count 0 ≡ count

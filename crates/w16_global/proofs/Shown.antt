@@ -25,11 +25,11 @@ module _ {state : ArenaState} {memory : List ℕ} (parts : AreParts state memory
 -- Where a memory shows the objects, a selector's base is the place of what it reaches.
 pub memory_shown : (w : Handles) → C.AreHandles w → (memory : List ℕ) → ShowsObjects memory w.heap → ShowsBytes memory w
 memory_shown w are memory shows selector offset n fine =
-    ap (λ k. part memory k n) (turn (part_of_selector w selector) refl (are.heap.at_bytes (C.far_slot w selector) ∙ ap is_some found.here))
-    ∙ shows (C.far_slot w selector) (C.far_at w selector offset) n (subst (λ b. C.IsSomeAnd b (λ bytes. C.far_at w selector offset + n ≤ length bytes)) (sym found.here) found.fits)
+    ap (λ k. part memory k n) (turn _ refl (are.heap.at_bytes _ ∙ ap is_some found.here))
+    ∙ shows _ _ n (subst (λ b. C.IsSomeAnd b (λ bytes. C.far_at w selector offset + n ≤ length bytes)) (sym found.here) found.fits)
   where
     found : C.Reached w (C.far_slot w selector) (C.far_at w selector offset + n)
-    found = C.reached w selector offset n fine
+    found = C.reached w _ offset n fine
 
     place : Part → Option ℕ
     place p = finmap.get w.heap.places p.slot
@@ -46,4 +46,4 @@ memory_shown w are memory shows selector offset n fine =
 
     turn : (p : Option Part) → part_of_selector w selector ≡ p → is_some (place (far p)) ≡ true → base p + offset ≡ unwrap_or (place (far p)) 0 + (REACH * (far p).number + offset)
     turn None e some = cc
-    turn (Some p) e some = moved (place p) (REACH * p.number) some
+    turn (Some p) e some = moved _ _ some

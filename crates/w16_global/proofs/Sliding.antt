@@ -64,8 +64,8 @@ module _ (old new : Heap) (is : C.IsHeap new) (about : Option ℕ) (k : ℕ) (ke
 
 -- an object that is there after was there before
 pub was_there : (old new : Heap) (about : Option ℕ) (k : ℕ) → KeepsOthers old about k new → (q : ℕ) → about ≢ Some q → is_some (object_at new q) ≡ true → is_some (object_at old q) ≡ true
-was_there old new about k keeps q other there = elim (C.cases_Bool (is_member q (take k (eligible (blocks old) old.order about)))) [
-  | inl gone ↦ held (object_at old q) (keeps.discarded q gone)
+was_there old new about k keeps q other there = elim (C.cases_Bool (is_member q _)) [
+  | inl gone ↦ held _ (keeps.discarded q gone)
   | inr out ↦ ap is_some (sym (keeps.kept q other (λ m. false≢true (sym out ∙ m)))) ∙ there
 ]
   where
@@ -189,7 +189,7 @@ pub given_moved : (h : Holding) (xs : List (Option Attributes)) (m : ℕ) {w : H
     → handles_of new (set xs slot (Some a)) moved ≡ record w { heap = new.heap; attributes = finmap.insert w.attributes slot a; moved = moved }
     → handles_of new (set xs slot (Some a)) moved ≡ record w { heap = new.heap; attributes = finmap.insert w.attributes slot a; moved = moved_bytes w.heap new.heap }
 given_moved h xs m {w} shown new slot a moved is given =
-    given ∙ (λ i. record w { heap = new.heap; attributes = finmap.insert w.attributes slot a; moved = (is ∙ ap (λ (v : Handles). moved_bytes v.heap new.heap) shown) i })
+    given ∙ (λ i. record w { heap = new.heap; attributes = finmap.insert w.attributes slot a; moved = (is ∙ ap (λ v. moved_bytes v.heap new.heap) shown) i })
 
 pub compacted_known : (h : Holding) (xs : List (Option Attributes)) (m : ℕ) {w : Handles} → handles_of h xs m ≡ w → (new : Holding) → new.cap ≡ h.cap → (n answer moved : ℕ) → C.Compacts h.heap n answer new.heap
     → moved ≡ moved_bytes h.heap new.heap → C.GlobalCompacts w n answer (handles_of new xs moved)

@@ -21,16 +21,16 @@ is_in first count slot low high = grind (arith, nat_tests)
 pub owner_with : (slots : ℕ) (m : C.FinMap C.nat_cmp Attributes) → AreRuns slots m → (first : ℕ) (a : Attributes) → finmap.get m first ≡ None → AreRuns slots (finmap.insert m first a) → (q : ℕ)
     → (is_in_run first a.slots q ≡ true → owner_of (finmap.insert m first a) q ≡ Some first) × (is_in_run first a.slots q ≡ false → owner_of (finmap.insert m first a) q ≡ owner_of m q)
 owner_with slots m are first a free after q = (
-  λ t. let lies = lies_in first a.slots q t in is_owner (finmap.insert m first a) slots after q first (lies.0, subst (λ n. q < first + n) (sym (C.slots_with m first a first refl)) lies.1),
-  λ f. turn f (owner_of m q) refl,
+  λ t. let lies = lies_in first a.slots q t in is_owner _ slots after q first (lies.0, subst (λ n. q < first + n) (sym (C.slots_with m first a first refl)) lies.1),
+  λ f. turn f _ refl,
 )
   where
     turn : is_in_run first a.slots q ≡ false → (p : Option ℕ) → owner_of m q ≡ p → owner_of (finmap.insert m first a) q ≡ p
     turn f (Some g) e =
-        let lies : IsIn m q g = owner_is m q g e in
+        let lies = owner_is m q g e in
         let other : g ≢ first = λ same. let none = C.slots_none m g (ap (finmap.get m) same ∙ free) in omega (arith, lies.0, lies.1, none) in
-        is_owner (finmap.insert m first a) slots after q g (lies.0, subst (λ n. q < g + n) (sym (C.slots_beside m first a g other)) lies.1)
-    turn f None e = none_owns (finmap.insert m first a) q (λ g lies. elim (C.cases_eq g first) [
+        is_owner _ slots after q g (lies.0, subst (λ n. q < g + n) (sym (C.slots_beside m first a g other)) lies.1)
+    turn f None e = none_owns _ q (λ g lies. elim (C.cases_eq g first) [
       | inl same ↦ false≢true (sym f ∙ is_in first a.slots q (subst (λ k. k ≤ q) same lies.0) (let many = C.slots_with m first a g same in omega (arith, lies.1, many, same)))
       | inr other ↦ C.no_owner m q e g (lies.0, subst (λ n. q < g + n) (C.slots_beside m first a g other) lies.1)
     ])
@@ -39,16 +39,16 @@ owner_with slots m are first a free after q = (
 pub owner_without : (slots : ℕ) (m : C.FinMap C.nat_cmp Attributes) → AreRuns slots m → (gone : ℕ) → AreRuns slots (finmap.remove m gone) → (q : ℕ)
     → (is_in_run gone (slots_at m gone) q ≡ true → owner_of (finmap.remove m gone) q ≡ None) × (is_in_run gone (slots_at m gone) q ≡ false → owner_of (finmap.remove m gone) q ≡ owner_of m q)
 owner_without slots m are gone after q = (
-  λ t. none_owns (finmap.remove m gone) q (λ g lies. C.not_gone m gone g q lies (C.one_owner m slots are q g gone (C.was_in m gone g q lies) (lies_in gone (slots_at m gone) q t))),
-  λ f. turn f (owner_of m q) refl,
+  λ t. none_owns _ q (λ g lies. C.not_gone m gone g q lies (C.one_owner m slots are q g gone (C.was_in m gone g q lies) (lies_in gone _ q t))),
+  λ f. turn f _ refl,
 )
   where
     turn : is_in_run gone (slots_at m gone) q ≡ false → (p : Option ℕ) → owner_of m q ≡ p → owner_of (finmap.remove m gone) q ≡ p
     turn f (Some g) e =
-        let lies : IsIn m q g = owner_is m q g e in
-        let other : g ≢ gone = λ same. false≢true (sym f ∙ is_in gone (slots_at m gone) q (subst (λ k. k ≤ q) same lies.0) (subst (λ k. q < k + slots_at m k) same lies.1)) in
-        is_owner (finmap.remove m gone) slots after q g (lies.0, subst (λ n. q < g + n) (sym (C.slots_left m gone g other)) lies.1)
-    turn f None e = none_owns (finmap.remove m gone) q (λ g lies. C.no_owner m q e g (C.was_in m gone g q lies))
+        let lies = owner_is m q g e in
+        let other : g ≢ gone = λ same. false≢true (sym f ∙ is_in gone _ q (subst (λ k. k ≤ q) same lies.0) (subst (λ k. q < k + slots_at m k) same lies.1)) in
+        is_owner _ slots after q g (lies.0, subst (λ n. q < g + n) (sym (C.slots_left m gone g other)) lies.1)
+    turn f None e = none_owns _ q (λ g lies. C.no_owner m q e g (C.was_in m gone g q lies))
 
 -- What a selector says.
 
@@ -63,23 +63,23 @@ unlabelled (Some d) e = cc
 
 -- an object that is there has selectors, with its kind and their numbers
 pub says_label : (heap : Heap) (kind : SelKind) (number first : ℕ) → is_some (object_at heap first) ≡ true → label_of (says heap kind number first) ≡ Some (kind, number)
-says_label heap kind number first there = of_object (object_at heap first) there
+says_label heap kind number first there = of_object _ there
   where
     of_bytes : (b : Option (List ℕ)) → label_of (Some (elim b as (λ _. Descriptor) [ None ↦ unset kind number | Some bytes ↦ reaching kind (unwrap_or (finmap.get heap.places first) 0) (length bytes) number ])) ≡ Some (kind, number)
     of_bytes None = refl
     of_bytes (Some bytes) = refl
 
-    of_object : (p : Option Object) → is_some p ≡ true → label_of (option_map (λ (o : Object). elim o.bytes as (λ _. Descriptor) [ None ↦ unset kind number | Some bytes ↦ reaching kind (unwrap_or (finmap.get heap.places first) 0) (length bytes) number ]) p) ≡ Some (kind, number)
+    of_object : (p : Option Object) → is_some p ≡ true → label_of (option_map (λ o. elim o.bytes as (λ _. Descriptor) [ None ↦ unset kind number | Some bytes ↦ reaching kind (unwrap_or (finmap.get heap.places first) 0) (length bytes) number ]) p) ≡ Some (kind, number)
     of_object None t = absurd (false≢true t)
     of_object (Some o) t = of_bytes o.bytes
 
 -- one without bytes reaches nothing
 pub says_absent : (heap : Heap) (kind : SelKind) (number first : ℕ) → is_some (object_at heap first) ≡ true → bytes_at heap first ≡ None → says heap kind number first ≡ Some (unset kind number)
-says_absent heap kind number first there gone = of_object (object_at heap first) there gone
+says_absent heap kind number first there gone = of_object _ there gone
   where
-    of_object : (p : Option Object) → is_some p ≡ true → C.bytes_in p ≡ None → option_map (λ (o : Object). elim o.bytes as (λ _. Descriptor) [ None ↦ unset kind number | Some bytes ↦ reaching kind (unwrap_or (finmap.get heap.places first) 0) (length bytes) number ]) p ≡ Some (unset kind number)
+    of_object : (p : Option Object) → is_some p ≡ true → C.bytes_in p ≡ None → option_map (λ o. elim o.bytes as (λ _. Descriptor) [ None ↦ unset kind number | Some bytes ↦ reaching kind (unwrap_or (finmap.get heap.places first) 0) (length bytes) number ]) p ≡ Some (unset kind number)
     of_object None t e = absurd (false≢true t)
-    of_object (Some o) t e = ap (λ (b : Option (List ℕ)). Some (elim b as (λ _. Descriptor) [ None ↦ unset kind number | Some bytes ↦ reaching kind (unwrap_or (finmap.get heap.places first) 0) (length bytes) number ])) e
+    of_object (Some o) t e = ap (λ b. Some (elim b as (λ _. Descriptor) [ None ↦ unset kind number | Some bytes ↦ reaching kind (unwrap_or (finmap.get heap.places first) 0) (length bytes) number ])) e
 
 -- Selectors by the objects whose they are.
 module _ (h : C.Holding) (xs : List (Option Attributes)) (is : C.AreHandles (handles_of h xs 0)) where

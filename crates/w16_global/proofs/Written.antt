@@ -9,37 +9,37 @@ use Rattle.w16_arena.proofs.Parts as arena
 slice_of_range : (m : List ℕ) (p s at n : ℕ) → at + n ≤ s → part (slice_range m p (p + s)) at n ≡ take n (drop (p + at) m)
 slice_of_range m p s at n le =
     let size : p + s - p ≡ at + (s - at) = omega arith in
-    ap (λ k. take n (drop at (take k (drop p m)))) size ∙ ap (take n) (drop-take at (s - at) (drop p m)) ∙ C.take-take n (s - at) (drop at (drop p m)) (omega arith) ∙ ap (take n) (drop-drop at p m)
+    ap (λ k. take n (drop at (take k (drop p m)))) size ∙ ap (take n) (drop-take at _ _) ∙ C.take-take n (s - at) (drop at _) (omega arith) ∙ ap (take n) (drop-drop at p m)
 
 -- n elements of a list with a part replaced
 take_put : (xs : List ℕ) (at n : ℕ) (new : List ℕ) → at + length new ≤ n → n ≤ length xs → take n (put_part xs at new) ≡ put_part (take n xs) at new
 take_put xs at n new le len =
-    let k : ℕ = length new in
-    let r : ℕ = n - (at + k) in
-    let front : length (take at xs) ≡ at = C.length-take-le at xs (omega arith) in
+    let k = length new in
+    let r = n - (at + k) in
+    let front = C.length-take-le at xs (omega arith) in
     let first : length (take at xs) + (k + r) ≡ n = omega arith in
     let whole : at + k + r ≡ n = omega arith in
     let left : take n (put_part xs at new) ≡ take at xs ++ (new ++ take r (drop k (drop at xs))) =
-    ap (λ j. take j (put_part xs at new)) (sym first) ∙ C.take-append-add (take at xs) (new ++ drop k (drop at xs)) (k + r) ∙ ap (λ ys. take at xs ++ ys) (C.take-append-add new (drop k (drop at xs)) r) in
-    let front_too : take at (take n xs) ≡ take at xs = C.take-take at n xs (omega arith) in
+    ap (λ j. take j (put_part xs at new)) (sym first) ∙ C.take-append-add _ (new ++ drop k _) (k + r) ∙ ap (λ ys. take at xs ++ ys) (C.take-append-add new _ r) in
+    let front_too = C.take-take at n xs (omega arith) in
     let behind : drop (at + k) (take n xs) ≡ take r (drop k (drop at xs)) =
     ap (λ j. drop (at + k) (take j xs)) (sym whole) ∙ drop-take (at + k) r xs ∙ ap (take r) (sym (drop-drop k at xs)) in
-    left ∙ (λ i. sym front_too i ++ (new ++ sym (drop-drop k at (take n xs) ∙ behind) i))
+    left ∙ (λ i. sym front_too i ++ (new ++ sym (drop-drop k at _ ∙ behind) i))
 
 -- what is behind a place before the part
 drop_put : (m : List ℕ) (p at : ℕ) (new : List ℕ) → p + at ≤ length m → drop p (put_part m (p + at) new) ≡ put_part (drop p m) at new
 drop_put m p at new le =
-    let k : ℕ = length new in
-    let front : length (take (p + at) m) ≡ p + at = C.length-take-le (p + at) m le in
-    C.drop-append-le p (take (p + at) m) (new ++ drop k (drop (p + at) m)) (omega arith)
+    let k = length new in
+    let front = C.length-take-le _ m le in
+    C.drop-append-le p _ _ (omega arith)
     ∙ (λ i. drop-take p at m i ++ (new ++ drop k (sym (drop-drop at p m) i)))
 
 -- in a range around the part it is replaced too
 slice_of_put_same : (m : List ℕ) (p s at : ℕ) (new : List ℕ) → at + length new ≤ s → p + s ≤ length m
     → slice_range (put_part m (p + at) new) p (p + s) ≡ put_part (slice_range m p (p + s)) at new
 slice_of_put_same m p s at new le len =
-    let behind : length (drop p m) ≡ length m - p = C.length-drop p m in
-    ap (take (p + s - p)) (drop_put m p at new (omega arith)) ∙ take_put (drop p m) at (p + s - p) new (omega arith) (omega arith)
+    let behind = C.length-drop p m in
+    ap (take _) (drop_put m p at new (omega arith)) ∙ take_put _ at _ new (omega arith) (omega arith)
 
 -- the bytes at a block
 abbrev bytes_of : List ℕ → Block → List ℕ
@@ -61,7 +61,7 @@ parts_written {state} {memory} parts at new le ours used = record {
   grain = parts.grain;
   high = parts.high ∙ sym (C.length-put_part memory at new le);
   bytes = C.All-put_part (λ b. b < 256) memory at new parts.bytes ours;
-  kept = C.threaded_stay (holes_in state.table) memory (put_part memory at new) parts.kept (C.AreSameIn-put_part (holes_in state.table) memory at new le used);
+  kept = C.threaded_stay _ memory _ parts.kept (C.AreSameIn-put_part _ memory at new le used);
   few = parts.few;
 }
 

@@ -1,7 +1,8 @@
 -- An access that met an object without bytes: which object that is, and its handle.
 use Rattle.w16_kernel.proofs
 use proofs.Common as C
-use proofs.Common.{None, Option, Some, ◌%◌, ◌+◌, ◌/◌, IsAbsent, handle_of, Bool, Discardable, FarAnswer, FarFault, Fill, Fixed, Handles, Kind, List, Moveable, Object, Read, Write, ap, arith, bytes_at, cond, false, false≢true, far_fault, length, object_at, offset_in, refl, selector_in, sym}
+use proofs.Common.{None, Option, Some, ◌%◌, ◌+◌, ◌/◌, IsAbsent, handle_of, Bool, Discardable, FarAnswer, FarFault, Fill, Fixed, Handles, Kind, List, Moveable, Object, Read}
+use proofs.Common.{Write, ap, arith, bytes_at, cond, false, false≢true, far_fault, length, object_at, offset_in, refl, selector_in, sym}
 use proofs.Common.{true, ℕ, ◌<◌, ◌∙◌, ◌≡◌, Part, dword_of}
 use Rattle.w16_model.specs.declared.FarFault.TheVariants.{BadSelector, NotPresent, Limit}
 use Rattle.w16_model.specs.{Far.is_past, Handles.part_of_selector}
@@ -17,7 +18,8 @@ module _ (handles : Handles) (selector : ℕ) where
       limit false e = cc
 
       of_bytes : (p : Part) → part_of_selector handles selector ≡ Some p → (b : Option (List ℕ)) → bytes_at handles.heap p.slot ≡ b
-          → ◌≡◌ {A = Option FarFault} (elim b as (λ _. Option FarFault) [ None ↦ Some NotPresent | Some bytes ↦ cond (is_past (length bytes) p (offset + n)) (Some Limit) None ]) (Some NotPresent) → IsAbsent handles selector
+          → ◌≡◌ {A = Option FarFault} (elim b as (λ _. Option FarFault) [ None ↦ Some NotPresent | Some bytes ↦ cond (is_past (length bytes) p (offset + n)) (Some Limit) None ]) (Some NotPresent)
+          → IsAbsent handles selector
       of_bytes p named None none e = record { place = p; named = named; without_bytes = none }
       of_bytes p named (Some bytes) some e = absurd (limit (is_past (length bytes) p (offset + n)) e)
 
@@ -53,7 +55,11 @@ module _ (handles : Handles) (is : C.AreHandles handles) (selector : ℕ) (absen
   handle = handle_of object.0.kind absent.place.slot
 
   told : C.global_handle handles selector ≡ dword_of selector handle
-  told = ap (λ (p : Option Part). elim p as (λ _. ℕ) [ None ↦ 0 | Some p ↦ C.unwrap_or (C.option_map (λ (o : Object). dword_of selector (handle_of o.kind p.slot)) (object_at handles.heap p.slot)) 0 ]) absent.named
+  told = ap (λ (p : Option Part). elim p as (λ _. ℕ) [
+    | None ↦ 0
+    | Some p ↦ C.unwrap_or
+        (C.option_map (λ (o : Object). dword_of selector (handle_of o.kind p.slot)) (object_at handles.heap p.slot)) 0
+  ]) absent.named
       ∙ ap (λ (p : Option Object). C.unwrap_or (C.option_map (λ (o : Object). dword_of selector (handle_of o.kind absent.place.slot)) p) 0) object.1
 
   low : (kind : Kind) → dword_of selector (handle_of kind absent.place.slot) % 65536 ≡ handle_of kind absent.place.slot

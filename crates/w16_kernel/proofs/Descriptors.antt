@@ -1,7 +1,8 @@
 -- Where objects stay as they are, so do descriptors.
 use Rattle.std.specs.Prelude.{◌≡◌, ◌-◌, ℕ, List, Option, Some, None, is_some, length, option_map, unwrap_or}
 use Rattle.w16_kernel.proofs.Common.{ne_format, refl, sym, ap, ◌∙◌}
-use Rattle.w16_model.specs.{Calls.global_handle, Calls.selector_base, Calls.selector_limit, Handles.Handles, Handles.Part, Handles.dword_of, Handles.handle_of, Handles.offset_in, Handles.part_of_selector, Handles.reached, Heap.Object, Heap.bytes_at, Heap.object_at, Owned.is_code}
+use Rattle.w16_model.specs.{Calls.global_handle, Calls.selector_base, Calls.selector_limit, Handles.Handles, Handles.Part, Handles.dword_of, Handles.handle_of}
+use Rattle.w16_model.specs.{Handles.offset_in, Handles.part_of_selector, Handles.reached, Heap.Object, Heap.bytes_at, Heap.object_at, Owned.is_code}
 use Rattle.w16_global.specs.declared.peek.Descriptor.{Descriptor}
 use Rattle.w16_global.specs.Peek.{selector_descriptor}
 use Rattle.w16_machine.specs.LocalStays.{HasSamePlaces}
@@ -33,7 +34,8 @@ module _ (old new : Handles) (same : HasSamePlaces old new) (selector : ℕ) whe
 
   handles_same : (q : Option Part) → handle_in new q ≡ handle_in old q
   handles_same None = refl
-  handles_same (Some p) = ap (λ n. unwrap_or n 0) (through (λ (o : Object). o.kind) (λ k. dword_of selector (handle_of k p.slot)) (object_at new.heap p.slot) (object_at old.heap p.slot) (same.kinds p.slot))
+  handles_same (Some p) = ap (λ n. unwrap_or n 0) (through (λ (o : Object). o.kind) (λ k. dword_of selector (handle_of k p.slot))
+      (object_at new.heap p.slot) (object_at old.heap p.slot) (same.kinds p.slot))
 
   some_same : (p q : Option (List ℕ)) → option_map length p ≡ option_map length q → is_some p ≡ is_some q
   some_same p q e = shown p ∙ ap is_some e ∙ sym (shown q)
@@ -43,7 +45,14 @@ module _ (old new : Handles) (same : HasSamePlaces old new) (selector : ℕ) whe
       shown (Some x) = refl
 
   abbrev told : Handles → Part → Descriptor
-  told handles p = record { base = selector_base handles selector; limit = selector_limit handles selector; object = offset_in (global_handle handles selector); present = is_some (bytes_at handles.heap p.slot); code = is_code handles p.slot }
+  told handles p = record {
+    base = selector_base handles selector;
+    limit = selector_limit handles selector;
+    object = offset_in
+        (global_handle handles selector);
+    present = is_some (bytes_at handles.heap p.slot);
+    code = is_code handles p.slot;
+  }
 
   tells : (q : Option Part) → option_map (told new) q ≡ option_map (told old) q
   tells None = refl
@@ -59,5 +68,6 @@ module _ (old new : Handles) (same : HasSamePlaces old new) (selector : ℕ) whe
   descriptor_same = ap (option_map (told new)) parts ∙ tells (part_of_selector old selector)
 
 pub descriptors_law : (honest : Type 0) → DescriptorsLaw honest
-descriptors_law honest old new (OfLoading command) reply is none step = descriptor_same old.loading.handles new.loading.handles (places_law honest ne_format old.loading new.loading command reply none step.step.0)
+descriptors_law honest old new (OfLoading command) reply is none step = descriptor_same old.loading.handles new.loading.handles
+    (places_law honest ne_format old.loading new.loading command reply none step.step.0)
 descriptors_law honest old new (OfLocals command) reply is none step = descriptor_same old.loading.handles new.loading.handles (local_places_law old new command reply is none step.step)

@@ -1,7 +1,8 @@
 -- Far accesses over a store, with what they fetch.
 use Rattle.w16_kernel.proofs
 use proofs.Common as C
-use proofs.Common.{Err, None, Some, Ok, ne_format, Refetches, IsWorldOver, reply_of, Bool, Dword, FarAnswer, FarCommand, FarFault, FarReplies, Fill, Handles, LoadingWorld, OfFar, Read, Step, Table, World, Write, ap, false, false≢true, far_slot, gives, inl, inr, left_in, needs_fetch, refl}
+use proofs.Common.{Err, None, Some, Ok, ne_format, Refetches, IsWorldOver, reply_of, Bool, Dword, FarAnswer, FarCommand, FarFault, FarReplies, Fill, Handles, LoadingWorld}
+use proofs.Common.{OfFar, Read, Step, Table, World, Write, ap, false, false≢true, far_slot, gives, inl, inr, left_in, needs_fetch, refl}
 use proofs.Common.{reply_of_far, selector_in, subst, sym, true, with_handles, ℕ, ◌∙◌, ◌≡◌, Moved}
 use proofs.Stepping.{stay}
 use Rattle.w16_loading.specs.{Law.FetchesOver, Families.access_of, Replies.Reply.Bytes, Replies.Reply.Done, Replies.Reply.Fault}
@@ -37,7 +38,8 @@ slot_of command old = far_slot old.handles (selector_of command)
 
 module _ (honest : Type 0) (old : World) (is : IsWorldOver honest old) (command : FarCommand) (reply : printed.Reply) where
   -- what fetches nothing
-  made_once : (next : Handles) → needs command old.loading ≡ false → FarReplies old.loading.handles command reply next → Makes honest old command reply (record old { loading = with_handles old.loading next })
+  made_once : (next : Handles) → needs command old.loading ≡ false → FarReplies old.loading.handles command reply next
+      → Makes honest old command reply (record old { loading = with_handles old.loading next })
   made_once next none s =
       let step = C.handles_step honest ne_format old.loading next (OfFar command) reply none s in
       (step, (λ i. record { loading = with_handles old.loading next; heaps = sym (stay honest old is _ _ _ none step) i; ds = old.ds }))
@@ -46,11 +48,13 @@ module _ (honest : Type 0) (old : World) (is : IsWorldOver honest old) (command 
   abbrev Fetching : LoadingWorld → Bool → Type 0
   Fetching new b = C.MatchBool b
       ((fault : C.Option C.FetchFault) × (next : LoadingWorld) × FetchesOver honest ne_format old.loading.failures new.failures old.loading (slot_of command old.loading) fault next
-      × C.MatchOption fault (gives (access_of command next) reply (record new { failures = old.loading.failures })) (λ f. (reply ≡ C.Failed f) × (record new { failures = old.loading.failures } ≡ next)))
+      × C.MatchOption fault (gives (access_of command next) reply (record new { failures = old.loading.failures }))
+      (λ f. (reply ≡ C.Failed f) × (record new { failures = old.loading.failures } ≡ next)))
       (gives (access_of command old.loading) reply (record new { failures = old.loading.failures }))
 
   -- what is made again after a fetch, and the sweep
-  made_again : (mid : LoadingWorld) (next : Handles) → needs command old.loading ≡ true → C.KernelFetch honest old.loading (slot_of command old.loading) None mid → FarReplies mid.handles command reply next
+  made_again : (mid : LoadingWorld) (next : Handles) → needs command old.loading ≡ true
+      → C.KernelFetch honest old.loading (slot_of command old.loading) None mid → FarReplies mid.handles command reply next
       → Makes honest old command reply (C.world_of (with_handles mid next) (left_in next.heap old.heaps) old.ds)
   made_again mid next needed f s =
       let m : LoadingWorld = record mid { failures = old.loading.failures } in (
@@ -59,7 +63,8 @@ module _ (honest : Type 0) (old : World) (is : IsWorldOver honest old) (command 
       )
 
   -- what can't be fetched
-  not_made : (fault : C.FetchFault) (new : LoadingWorld) → needs command old.loading ≡ true → C.KernelFetch honest old.loading (slot_of command old.loading) (Some fault) new → reply ≡ C.Failed fault → new.handles ≡ old.loading.handles
+  not_made : (fault : C.FetchFault) (new : LoadingWorld) → needs command old.loading ≡ true
+      → C.KernelFetch honest old.loading (slot_of command old.loading) (Some fault) new → reply ≡ C.Failed fault → new.handles ≡ old.loading.handles
       → Makes honest old command reply (C.world_of new old.heaps old.ds)
   not_made fault new needed f e same = (
     record { counted = f.0.counted; files = f.0.same; step = subst (Fetching new) (sym needed) (Some fault, record new { failures = old.loading.failures }, f.1, (e, refl)) },
@@ -95,9 +100,11 @@ module _ (honest : Type 0) (opened old : World) (same : opened ≡ old) (given_i
   pub answered : (reply : printed.Reply) → is_fault reply ≡ false → (new : LoadingWorld) → new ≡ with_handles opened.loading new.handles → FarReplies opened.loading.handles command reply new.handles
       → Makes honest old command reply (C.world_of new opened.heaps opened.ds)
   answered reply none new rest s = back _ _ (subst (λ w. Makes honest opened command reply (C.world_of w opened.heaps opened.ds)) (sym rest)
-      (made_once honest opened is command reply new.handles (needs_nothing opened.loading (selector_of command) reply (access_of command opened.loading).0 (given opened.loading new.handles command reply s).0 none) s))
+      (made_once honest opened is command reply new.handles (needs_nothing opened.loading (selector_of command) reply
+      (access_of command opened.loading).0 (given opened.loading new.handles command reply s).0 none) s))
 
-  module _ (mid : LoadingWorld) (kept : mid ≡ opened.loading) (fault : FarFault) (met : FarReplies opened.loading.handles command (Fault fault) mid.handles) (selector : ℕ) (named : selector ≡ selector_of command) where
+  module _ (mid : LoadingWorld) (kept : mid ≡ opened.loading) (fault : FarFault) (met : FarReplies opened.loading.handles command (Fault fault) mid.handles)
+      (selector : ℕ) (named : selector ≡ selector_of command) where
     refetched : (result : C.Result (Unit {0}) Reply) (new : LoadingWorld) → Refetches honest mid selector fault result new → Refetches honest opened.loading (selector_of command) fault result new
     refetched result new f = rw (named, kept) at f
 
@@ -111,7 +118,8 @@ module _ (honest : Type 0) (opened old : World) (same : opened ≡ old) (given_i
         turn (inl (none, e, left)) = rw (left, e) (made_once honest opened is command _ opened.loading.handles (met_needs false none) (rw kept at met))
         turn (inr (needed, left, failed, e, f)) = not_made honest opened is command (reply_of reply) failed new (met_needs true needed) f e left
 
-    pub remade_by : (again : LoadingWorld) → Refetches honest mid selector fault (Ok tt) again → (reply : printed.Reply) (new : LoadingWorld) → new ≡ with_handles again new.handles → FarReplies again.handles command reply new.handles
+    pub remade_by : (again : LoadingWorld) → Refetches honest mid selector fault (Ok tt) again → (reply : printed.Reply) (new : LoadingWorld)
+        → new ≡ with_handles again new.handles → FarReplies again.handles command reply new.handles
         → Makes honest old command reply (C.world_of new (left_in new.handles.heap opened.heaps) opened.ds)
     remade_by again f reply new rest s = back _ _ (subst (λ (w : LoadingWorld). Makes honest opened command reply (C.world_of w (left_in w.handles.heap opened.heaps) opened.ds)) (sym rest)
         (let g = refetched (Ok tt) again f in made_again honest opened is command reply again new.handles (met_needs true g.0) g.1 s))

@@ -14,7 +14,8 @@ use Rattle.w16_loading.specs.{Replies.Reply as Printed, Replies.Reply.Bytes, Rep
 use Rattle.w16_model.proofs.{Parts.All-repeated, Parts.length-repeated}
 use Rattle.w16_global.specs.{Loans.IsPlaceIn, Loans.after_lent, Loans.left_of, Loans.lent_bytes, Loans.with_bytes_there, declared.loan.Place.Place}
 use Rattle.w16_global.proofs.{Loans.All-left_of, Loans.left_length, Loans.lent_written}
-use Rattle.w16_kernel.specs.{Lent.FindsPlace, Lent.FindsPlaceOnce, Lent.IsTaken, Lent.OfEach, Lent.after_lending, Lent.with_left, Runs.bytes_written, declared.call.Reply.Reply, declared.far.Written.Written}
+use Rattle.w16_kernel.specs.{Lent.FindsPlace, Lent.FindsPlaceOnce, Lent.IsTaken, Lent.OfEach, Lent.after_lending, Lent.with_left}
+use Rattle.w16_kernel.specs.{Runs.bytes_written, declared.call.Reply.Reply, declared.far.Written.Written}
 use Rattle.w16_kernel.specs.declared.call.Reply.TheVariants as replies
 use Rattle.w16_kernel.specs.declared.far.Written.TheVariants as writes
 use Rattle.std.specs.Prelude.{All}
@@ -24,7 +25,8 @@ module _ (old : Handles) (pointer count : ℕ) {fault : FarFault} where
   data_met : (write : Bool) → FindsPlaceOnce old write pointer count (Err fault) old → fault ≡ NotPresent → far_fault old (selector_in pointer) (offset_in pointer) count ≡ Some fault
   data_met write m absent = turn (write && C.refuses_write old (selector_in pointer)) m
     where
-      turn : (b : Bool) → (if b then Some ReadOnly else far_fault old (selector_in pointer) (offset_in pointer) count) ≡ Some fault → far_fault old (selector_in pointer) (offset_in pointer) count ≡ Some fault
+      turn : (b : Bool) → (if b then Some ReadOnly else far_fault old (selector_in pointer) (offset_in pointer) count) ≡ Some fault
+          → far_fault old (selector_in pointer) (offset_in pointer) count ≡ Some fault
       turn true e = cc
       turn false e = e
 
@@ -37,8 +39,10 @@ module _ (old : Handles) (pointer count : ℕ) {fault : FarFault} where
       turn bytes long true e = let same : ReadOnly ≡ fault = cc in (ap FarAnswer.Fault (sym same), refl)
       turn bytes long false e = let met = ap (far_fault old (selector_in pointer) (offset_in pointer)) long ∙ e in rw (met, C.data_write) (refl, refl)
 
-pub not_there : (old mid : LoadingWorld) → mid ≡ old → (write : Bool) (pointer count : ℕ) {fault : FarFault} → FindsPlaceOnce old.handles write pointer count (Err fault) mid.handles → fault ≡ NotPresent → C.IsAbsent mid.handles (selector_in pointer)
-not_there old mid same write pointer count m absent = rw same (by_fault old.handles (selector_in pointer) (offset_in pointer) count (data_met old.handles pointer count write m absent ∙ ap Some absent))
+pub not_there : (old mid : LoadingWorld) → mid ≡ old → (write : Bool) (pointer count : ℕ) {fault : FarFault}
+    → FindsPlaceOnce old.handles write pointer count (Err fault) mid.handles → fault ≡ NotPresent → C.IsAbsent mid.handles (selector_in pointer)
+not_there old mid same write pointer count m absent = rw same
+    (by_fault old.handles (selector_in pointer) (offset_in pointer) count (data_met old.handles pointer count write m absent ∙ ap Some absent))
 
 -- what is fetched wasn't there
 fetched : {honest : Type 0} {old new : LoadingWorld} (selector : ℕ) (fault : FarFault) → Refetches honest old selector fault (Ok tt) new → fault ≡ NotPresent
@@ -52,7 +56,8 @@ in_range : ℕ → Option ℕ → Bool
 in_range hi None = false
 in_range hi (Some n) = nat_le hi n
 
-same_tables : (before after : Heap) (tables : C.FinMap C.nat_cmp Table) → ((q : ℕ) → option_map length (bytes_at after q) ≡ option_map length (bytes_at before q)) → left_in after tables ≡ left_in before tables
+same_tables : (before after : Heap) (tables : C.FinMap C.nat_cmp Table)
+    → ((q : ℕ) → option_map length (bytes_at after q) ≡ option_map length (bytes_at before q)) → left_in after tables ≡ left_in before tables
 unfolding in_range
 same_tables before after tables same = λ i. finmap.retain_keys tables (λ q. ranges (finmap.get tables q) q i)
   where
@@ -76,14 +81,17 @@ module _ {honest : Type 0} {old : World} (is : IsWorldOver honest old) where
   pub left_by : (write : Bool) (pointer count : ℕ) (result : C.Result Place Reply) {new : World} → FindsPlace honest old write pointer count result new → IsWorldOver honest new
   left_by write pointer count (Ok place) s = left s.0
   left_by false pointer count (Err reply) s = left s
-  left_by true pointer count (Err reply) {new} s = kept honest old is (OfLoading (OfFar (Write pointer (C.repeated count 0)))) (C.reply_of reply) new (All-repeated count 0 (omega arith)) (s (C.repeated count 0) (length-repeated count 0)).step
+  left_by true pointer count (Err reply) {new} s = kept honest old is (OfLoading (OfFar (Write pointer (C.repeated count 0))))
+      (C.reply_of reply) new (All-repeated count 0 (omega arith)) (s (C.repeated count 0) (length-repeated count 0)).step
 
 -- and so does a loan, since it is a write
-pub lent : {honest : Type 0} {before opened now : World} {pointer : ℕ} → opened ≡ now → (place : Place) → IsPlaceIn now.loading.handles place → IsTaken honest before pointer now place → (new : List ℕ) → IsWorldOver honest (after_lending place opened new)
+pub lent : {honest : Type 0} {before opened now : World} {pointer : ℕ} → opened ≡ now → (place : Place) → IsPlaceIn now.loading.handles place
+    → IsTaken honest before pointer now place → (new : List ℕ) → IsWorldOver honest (after_lending place opened new)
 lent {honest} {before} {now = now} {pointer = pointer} same place there t new =
     let bytes : List ℕ = left_of (lent_bytes now.loading.handles place) new in
     subst (λ w. IsWorldOver honest (after_lending place w new)) (sym same)
-    (kept honest before t.sound (OfLoading (OfFar (Write pointer bytes))) Done (with_left now place bytes) (All-left_of (lent_bytes now.loading.handles place) new) (t.writes bytes (left_length now.loading.handles.heap place.slot place.at place.count there new)).step)
+    (kept honest before t.sound (OfLoading (OfFar (Write pointer bytes))) Done (with_left now place bytes) (All-left_of (lent_bytes now.loading.handles place) new)
+    (t.writes bytes (left_length now.loading.handles.heap place.slot place.at place.count there new)).step)
 
 -- What is left of bytes that are written over a place.
 pub left_written : (v now : LoadingWorld) → v ≡ now → (place : Place) → IsPlaceIn now.handles place → (x bytes : List ℕ) → x ≡ bytes → length bytes ≡ place.count → All (λ b. b < 256) x
@@ -97,31 +105,38 @@ left_written v now same place there x bytes is long all = ap (λ (w : LoadingWor
 
 -- The parts are opened while an access is made.
 module _ (honest : Type 0) (opened old : World) (same : opened ≡ old) (is : IsWorldOver honest old) (write : Bool) (pointer count : ℕ) where
-  pub found : (place : Place) (new : LoadingWorld) → new ≡ with_handles opened.loading new.handles → FindsPlaceOnce opened.loading.handles write pointer count (Ok place) new.handles → FindsPlace honest old write pointer count (Ok place) (world_of new opened.heaps opened.ds)
+  pub found : (place : Place) (new : LoadingWorld) → new ≡ with_handles opened.loading new.handles → FindsPlaceOnce opened.loading.handles write pointer count (Ok place) new.handles
+      → FindsPlace honest old write pointer count (Ok place) (world_of new opened.heaps opened.ds)
   found place new rest s = (
     told is (answered honest opened old same is (Read pointer count) _ refl new rest s.1),
     s.0,
     λ e. record {
       sound = is;
-      writes = λ bytes long. told is (answered honest opened old same is (Write pointer bytes) Done refl (with_left (world_of new opened.heaps opened.ds) place bytes).loading (ap (λ (l : LoadingWorld). with_handles l (with_bytes_there new.handles place bytes)) rest) (s.2 e bytes (long ∙ s.0.1)));
+      writes = λ bytes long. told is (answered honest opened old same is (Write pointer bytes) Done refl (with_left (world_of new opened.heaps opened.ds) place bytes).loading
+          (ap (λ (l : LoadingWorld). with_handles l (with_bytes_there new.handles place bytes)) rest) (s.2 e bytes (long ∙ s.0.1)));
     },
   )
 
   module _ (fault : FarFault) (m : FindsPlaceOnce opened.loading.handles write pointer count (Err fault) opened.loading.handles) (selector : ℕ) (named : selector ≡ selector_in pointer)
       (mid : LoadingWorld) (kept : mid ≡ opened.loading) where
-    pub not_found : (reply : Reply) (new : LoadingWorld) → Refetches honest mid selector fault (Err reply) new → FindsPlace honest old write pointer count (Err reply) (world_of new opened.heaps opened.ds)
+    pub not_found : (reply : Reply) (new : LoadingWorld) → Refetches honest mid selector fault (Err reply) new
+        → FindsPlace honest old write pointer count (Err reply) (world_of new opened.heaps opened.ds)
     not_found reply new f = turn write m
       where
-        turn : (write : Bool) → FindsPlaceOnce opened.loading.handles write pointer count (Err fault) opened.loading.handles → FindsPlace honest old write pointer count (Err reply) (world_of new opened.heaps opened.ds)
-        turn false m = told is (ended_by honest opened old same is (Read pointer count) opened.loading refl fault (met opened.loading.handles pointer count false m) selector named reply new (rw kept at f))
-        turn true m = λ bytes long. told is (ended_by honest opened old same is (Write pointer bytes) opened.loading refl fault (met opened.loading.handles pointer count true m bytes long) selector named reply new (rw kept at f))
+        turn : (write : Bool) → FindsPlaceOnce opened.loading.handles write pointer count (Err fault) opened.loading.handles
+            → FindsPlace honest old write pointer count (Err reply) (world_of new opened.heaps opened.ds)
+        turn false m = told is (ended_by honest opened old same is (Read pointer count) opened.loading refl fault
+            (met opened.loading.handles pointer count false m) selector named reply new (rw kept at f))
+        turn true m = λ bytes long. told is (ended_by honest opened old same is (Write pointer bytes) opened.loading refl fault
+            (met opened.loading.handles pointer count true m bytes long) selector named reply new (rw kept at f))
 
     module _ (again : LoadingWorld) (given : Refetches honest mid selector fault (Ok tt) again) where
       f : Refetches honest opened.loading selector fault (Ok tt) again
       f = rw kept at given
 
       -- made again, as the access that met the fault or as another that meets it
-      remade : (command : FarCommand) → FarReplies opened.loading.handles command (Fault fault) opened.loading.handles → selector ≡ selector_in (pointer_in command) → (reply : Printed) (new : LoadingWorld) → new ≡ with_handles again new.handles → FarReplies again.handles command reply new.handles
+      remade : (command : FarCommand) → FarReplies opened.loading.handles command (Fault fault) opened.loading.handles → selector ≡ selector_in (pointer_in command)
+          → (reply : Printed) (new : LoadingWorld) → new ≡ with_handles again new.handles → FarReplies again.handles command reply new.handles
           → KernelStep honest old (OfLoading (OfFar command)) reply (world_of new (left_in new.handles.heap opened.heaps) opened.ds)
       remade command met named reply new rest s = told is (remade_by honest opened old same is command opened.loading refl fault met selector named again f reply new rest s)
 
@@ -140,17 +155,22 @@ module _ (honest : Type 0) (opened old : World) (same : opened ≡ old) (is : Is
               subst (λ heaps. KernelStep honest old (OfLoading (OfFar (Write pointer bytes))) Done (world_of after heaps opened.ds))
               (same_tables new.handles.heap after.handles.heap opened.heaps (λ q. sizes.sizes q ∙ sym (read_sizes.sizes q)))
               (remade (Write pointer bytes) (subst (λ w. OfEach w pointer count (λ command. FarReplies opened.loading.handles command (Fault fault) opened.loading.handles)) e
-              (met opened.loading.handles pointer count write m) bytes (long ∙ s.0.1)) named Done after (ap (λ (l : LoadingWorld). with_handles l (with_bytes_there new.handles place bytes)) rest) written);
+              (met opened.loading.handles pointer count write m) bytes (long ∙ s.0.1)) named Done after
+              (ap (λ (l : LoadingWorld). with_handles l (with_bytes_there new.handles place bytes)) rest) written);
         },
       )
 
-      pub not_again : (new : LoadingWorld) → new ≡ again → (last : FarFault) → FindsPlaceOnce again.handles write pointer count (Err last) again.handles → FindsPlace honest old write pointer count (Err (replies.Fault last)) (world_of new (left_in new.handles.heap opened.heaps) opened.ds)
-      not_again new same last s = subst (λ (w : LoadingWorld). FindsPlace honest old write pointer count (Err (replies.Fault last)) (world_of w (left_in w.handles.heap opened.heaps) opened.ds)) (sym same) (turn write m s)
+      pub not_again : (new : LoadingWorld) → new ≡ again → (last : FarFault) → FindsPlaceOnce again.handles write pointer count (Err last) again.handles
+          → FindsPlace honest old write pointer count (Err (replies.Fault last)) (world_of new (left_in new.handles.heap opened.heaps) opened.ds)
+      not_again new same last s = subst (λ (w : LoadingWorld). FindsPlace honest old write pointer count (Err (replies.Fault last)) (world_of w (left_in w.handles.heap opened.heaps) opened.ds))
+          (sym same) (turn write m s)
         where
-          turn : (write : Bool) → FindsPlaceOnce opened.loading.handles write pointer count (Err fault) opened.loading.handles → FindsPlaceOnce again.handles write pointer count (Err last) again.handles
+          turn : (write : Bool) → FindsPlaceOnce opened.loading.handles write pointer count (Err fault) opened.loading.handles
+              → FindsPlaceOnce again.handles write pointer count (Err last) again.handles
               → FindsPlace honest old write pointer count (Err (replies.Fault last)) (world_of again (left_in again.handles.heap opened.heaps) opened.ds)
           turn false m s = remade (Read pointer count) (met opened.loading.handles pointer count false m) named (Fault last) again refl (met again.handles pointer count false s)
-          turn true m s = λ bytes long. remade (Write pointer bytes) (met opened.loading.handles pointer count true m bytes long) named (Fault last) again refl (met again.handles pointer count true s bytes long)
+          turn true m s = λ bytes long. remade (Write pointer bytes) (met opened.loading.handles pointer count true m bytes long) named
+              (Fault last) again refl (met again.handles pointer count true s bytes long)
 
 -- A read copies what was found.
 pub read_back : (honest : Type 0) (old : World) {new opened : World} (pointer count : ℕ) → opened ≡ new → (place : Place) (seen : List ℕ) → seen ≡ lent_bytes opened.loading.handles place
@@ -158,7 +178,8 @@ pub read_back : (honest : Type 0) (old : World) {new opened : World} (pointer co
 read_back honest old {new} pointer count same place seen is = subst (λ b. Makes honest old (Read pointer count) (Bytes b) new) (sym (is ∙ ap (λ (w : World). lent_bytes w.loading.handles place) same))
 
 -- A write, also of one byte many times.
-pub as_written : (honest : Type 0) (old : World) {new : World} (reply : Printed) (pointer : ℕ) (written : Written) → Makes honest old (Write pointer (bytes_written written)) reply new → Makes honest old (C.write_of pointer written) reply new
+pub as_written : (honest : Type 0) (old : World) {new : World} (reply : Printed) (pointer : ℕ) (written : Written)
+    → Makes honest old (Write pointer (bytes_written written)) reply new → Makes honest old (C.write_of pointer written) reply new
 as_written honest old reply pointer (writes.Bytes bytes) s = s
 as_written honest old reply pointer (writes.Repeated count byte) s = (record { counted = s.0.counted; files = s.0.files; step = s.0.step }, s.1)
 

@@ -1,5 +1,5 @@
 pub mod Absent
-pub mod Adding
+pub mod Files
 pub mod Asked
 pub mod Common
 pub mod Descriptors

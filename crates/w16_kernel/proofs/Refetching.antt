@@ -1,9 +1,11 @@
 -- What becomes of an access that met a fault: what the kernel fetches is the object that the access asked for.
 use Rattle.w16_kernel.proofs
 use proofs.Common as C
-use proofs.Common.{None, Option, Some, slice_get, ◌-◌, ◌/◌, IsSourceFor, Module, segment_among, told, Bool, FarAnswer, List, LoadingWorld, ap, arith, false, far_slot, length, needs_fetch, refl, subst, sym, true, ℕ, ◌<◌, ◌∙◌, ◌≡◌, ◌≤◌, is_owned, stays}
+use proofs.Common.{None, Option, Some, slice_get, ◌-◌, ◌/◌, IsSourceFor, Module, segment_among, told, Bool, FarAnswer, List, LoadingWorld, ap, arith}
+use proofs.Common.{false, far_slot, length, needs_fetch, refl, subst, sym, true, ℕ, ◌<◌, ◌∙◌, ◌≡◌, ◌≤◌, is_owned, stays}
 use proofs.Absent.{lacks, slot_is}
-use Rattle.w16_loading.specs.{Owner.Owner.OfSegment, Owner.Owner.Script, Fewest.FillsFewest}
+use Rattle.w16_loading.specs.{Owner.Owner.OfSegment, Owner.Owner.Script}
+use Rattle.w16_resource.specs.Parts.{FetchesResource}
 use Rattle.w16_model.specs.declared.FarFault.TheVariants.{NotPresent}
 use Rattle.w16_loader.specs.{declared.table.SegmentOf.SegmentOf, declared.segment_fetch.SegmentSource.SegmentSource, Fetching.GivesSegment}
 use Rattle.w16_loader.proofs.Fetches.{fetches}
@@ -21,13 +23,18 @@ pub no_module : {m : Module} → ◌≡◌ {A = Option Module} None (Some m) →
 no_module e = cc
 
 -- the module of a segment is the one of its handle
-pub source_for : {A : Type 0} {world : LoadingWorld} {slot handle number : ℕ} {n m : Module} {source : SegmentSource A} → C.IsSegmentOf world slot handle number n → C.module_at world.modules handle ≡ Some m → number ≡ source.number
+pub source_for : {A : Type 0} {world : LoadingWorld} {slot handle number : ℕ} {n m : Module} {source : SegmentSource A}
+    → C.IsSegmentOf world slot handle number n → C.module_at world.modules handle ≡ Some m → number ≡ source.number
     → C.IsSourceOf m number source.file.now source.values.now → m.tables ≡ C.tables_in source.module.now → IsSourceFor world slot source
 source_for {slot = slot} {handle = handle} {number = number} {n = n} {m = m} {source = source} segment loaded same of tables =
     let is : n ≡ m = (let e = sym segment.loaded ∙ loaded in cc) in record {
       handle = handle;
       m = m;
-      segment = record { loaded = loaded; has = subst (λ k. (0 < k) × (slice_get m.slots (k - 1) ≡ Some slot)) same (subst (λ (m : Module). (0 < number) × (slice_get m.slots (number - 1) ≡ Some slot)) is segment.has) };
+      segment = record {
+        loaded = loaded;
+        has = subst (λ k. (0 < k) × (slice_get m.slots (k - 1) ≡ Some slot)) same
+            (subst (λ (m : Module). (0 < number) × (slice_get m.slots (number - 1) ≡ Some slot)) is segment.has);
+      };
       source_of = subst (λ n. C.IsSourceOf m n source.file.now source.values.now) same of;
       tables = tables;
     }
@@ -46,12 +53,13 @@ module _ {world : LoadingWorld} (slot : ℕ) (is : C.IsLoadingWorld world) (none
 -- A fetch of an object that a module owns.
 module _ {honest : Type 0} {old : LoadingWorld} (is : C.IsLoadingOver honest old) (name : ℕ) where
   -- of a resource
-  pub resource_fetched : {fault : Option C.FetchFault} {next : C.Handles} {left : List (List ℕ × List ℕ)} {count : ℕ} → C.IsLater old.files old.failures left count
-      → C.FetchesFrom FillsFewest (told honest C.ne_format old.files old.failures count) old (name / 8) fault (record old { handles = next }) → C.KernelFetch honest old (name / 8) fault (record old { handles = next; files = left; failures = count })
-  resource_fetched stays fetch = (stays, rw stays.same (fetch_fills (told honest C.ne_format old.files old.failures _) old (name / 8) _ _ fetch))
+  pub resource_fetched : {fault : Option C.FetchFault} {new : LoadingWorld} → C.IsLater old.files old.failures new.files new.failures → FetchesResource honest old (name / 8) fault new
+      → C.KernelFetch honest old (name / 8) fault new
+  resource_fetched stays fetch = (stays, fetch_fills (told honest C.ne_format old.files old.failures _) old (name / 8) _ _ fetch)
 
   -- or of a segment
-  module _ {slot : ℕ} (at : slot ≡ name / 8) (unloaded : finmap.get old.loads (name / 8) ≡ None) {A : Type 0} {source : SegmentSource A} (found : finmap.get old.loads slot ≡ None → IsSourceFor old slot source) where
+  module _ {slot : ℕ} (at : slot ≡ name / 8) (unloaded : finmap.get old.loads (name / 8) ≡ None) {A : Type 0} {source : SegmentSource A}
+      (found : finmap.get old.loads slot ≡ None → IsSourceFor old slot source) where
     here : IsSourceFor old (name / 8) source
     here = subst (λ q. IsSourceFor old q source) at (found (ap (finmap.get old.loads) at ∙ unloaded))
 
@@ -68,12 +76,14 @@ module _ {honest : Type 0} {old : LoadingWorld} (is : C.IsLoadingOver honest old
             omega (arith, inside, as_long, some)
 
     pub fetched : {fault : Option C.FetchFault} {next : C.Handles} {left : List (List ℕ × List ℕ)} {count : ℕ} → C.IsLater old.files old.failures left count
-        → GivesSegment honest old.files source.file.now source.module.now source.number source.values.now old.failures count old.handles (name / 8) fault next → C.KernelFetch honest old (name / 8) fault (record old { handles = next; files = left; failures = count })
-    fetched {next = next} stays given = resource_fetched stays (fetches honest old (name / 8) source.number source.file.now source.module.now source.values.now within.1
-        (record { sound = is.0; of_files = is.1; handle = here.handle; m = here.m; segment = here.segment; source = here.source_of; tables = here.tables }) old.failures _ _ next given)
+        → GivesSegment honest old.files source.file.now source.module.now source.number source.values.now old.failures count old.handles (name / 8) fault next
+        → C.KernelFetch honest old (name / 8) fault (record old { handles = next; files = left; failures = count })
+    fetched {next = next} stays given = resource_fetched stays (rw stays.same (fetches honest old (name / 8) source.number source.file.now source.module.now source.values.now within.1
+        (record { sound = is.0; of_files = is.1; handle = here.handle; m = here.m; segment = here.segment; source = here.source_of; tables = here.tables }) old.failures _ _ next given))
 
 -- An access that met an object without bytes.
-module _ {honest : Type 0} {old : LoadingWorld} (is : C.IsLoadingOver honest old) {selector : ℕ} (absent : C.IsAbsent old.handles selector) (few : selector < 65536) {name : ℕ} (named : name ≡ C.offset_in (C.global_handle old.handles selector)) where
+module _ {honest : Type 0} {old : LoadingWorld} (is : C.IsLoadingOver honest old) {selector : ℕ} (absent : C.IsAbsent old.handles selector)
+    (few : selector < 65536) {name : ℕ} (named : name ≡ C.offset_in (C.global_handle old.handles selector)) where
   selected : far_slot old.handles selector ≡ name / 8
   selected = slot_is old.handles is.0.handles selector absent few name named
 
@@ -87,5 +97,6 @@ module _ {honest : Type 0} {old : LoadingWorld} (is : C.IsLoadingOver honest old
   pub refetched : is_owned old.handles (name / 8) ≡ true → {new : LoadingWorld} → C.KernelFetch honest old (name / 8) None new → C.Refetches honest old selector NotPresent (C.Ok tt) new
   refetched owned f = (needs owned, rw selected f)
 
-  pub unfetched : is_owned old.handles (name / 8) ≡ true → (failed : C.FetchFault) {new : LoadingWorld} → C.KernelFetch honest old (name / 8) (Some failed) new → new.handles ≡ old.handles → C.Refetches honest old selector NotPresent (C.Err (code.Failed failed)) new
+  pub unfetched : is_owned old.handles (name / 8) ≡ true → (failed : C.FetchFault) {new : LoadingWorld} → C.KernelFetch honest old (name / 8) (Some failed) new
+      → new.handles ≡ old.handles → C.Refetches honest old selector NotPresent (C.Err (code.Failed failed)) new
   unfetched owned failed f same = C.inr (needs owned, same, failed, refl, rw selected f)

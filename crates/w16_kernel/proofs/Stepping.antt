@@ -1,29 +1,36 @@
 -- A step over the kernel's parts, and the sweep after it, are one step of the machine.
 use Rattle.w16_kernel.proofs
 use proofs.Common as C
-use proofs.Common.{ne_format, IsWorldOver, with_surviving, may_take_bytes, reply_of, StepOver, Bool, Command, Dword, Heap, IsCommand, LoadingCommand, LoadingWorld, OfFar, OfHandles, OfLoading, Step, World, [], false, false≢true, left_in, refl, sym, true, ℕ, ◌∷◌, ◌≡◌, ◌≤◌, step_may_take, Moved}
+use proofs.Common.{ne_format, IsWorldOver, with_surviving, may_take_bytes, reply_of, StepOver, Bool, Command, Dword, Heap, IsCommand, LoadingCommand, LoadingWorld, OfFar}
+use proofs.Common.{OfHandles, OfLoading, Step, World, [], false, false≢true, left_in, refl, sym, true, ℕ, ◌∷◌, ◌≡◌, ◌≤◌, step_may_take, Moved}
 use Rattle.w16_loading.proofs.Requests.{requests_fewest_law}
 use Rattle.w16_loading.specs.{Fewest.FewestOver, Replies.Reply.Bytes}
 use Rattle.w16_model.specs.Far.FarCommand.{Read}
 use Rattle.w16_kernel.specs.declared.call.Reply.{Reply}
+use Rattle.w16_kernel.specs.Questions.{IsAnswered}
+use Rattle.w16_model.specs.Calls.{HandleCommand}
+use Rattle.w16_machine.specs.Law.{OnHandles}
 use Rattle.w16_loading.specs.Replies as printed
 
 module _ (honest : Type 0) (old : World) (is : IsWorldOver honest old) where
   -- after a step that takes no bytes all heaps stay
-  pub stay : (command : LoadingCommand) (reply : printed.Reply) (new : LoadingWorld) → step_may_take old.loading command ≡ false → StepOver honest ne_format old.loading command reply new → left_in new.handles.heap old.heaps ≡ old.heaps
+  pub stay : (command : LoadingCommand) (reply : printed.Reply) (new : LoadingWorld) → step_may_take old.loading command ≡ false
+      → StepOver honest ne_format old.loading command reply new → left_in new.handles.heap old.heaps ≡ old.heaps
   stay command reply new none s = C.heaps_law honest ne_format old (C.after_loading old new) command reply is.0.heaps none (s, refl)
 
   survive : (b : Bool) (heap : Heap) → (b ≡ false → left_in heap old.heaps ≡ old.heaps) → C.surviving_heaps b heap old.heaps ≡ left_in heap old.heaps
   survive true heap same = refl
   survive false heap same = sym (same refl)
 
-  swept : (command : LoadingCommand) (reply : printed.Reply) (new : LoadingWorld) → (may_take_bytes (OfLoading command) ≡ false → step_may_take old.loading command ≡ false) → StepOver honest ne_format old.loading command reply new
+  swept : (command : LoadingCommand) (reply : printed.Reply) (new : LoadingWorld)
+      → (may_take_bytes (OfLoading command) ≡ false → step_may_take old.loading command ≡ false) → StepOver honest ne_format old.loading command reply new
       → Step honest ne_format old (OfLoading command) reply (with_surviving (record old { loading = new }) (OfLoading command))
   swept command reply new none s =
       (s, (λ i. record { loading = new; heaps = survive (may_take_bytes (OfLoading command)) new.handles.heap (λ e. stay command reply new (none e) s) i; ds = old.ds }))
 
   -- the step from a world in which the tables of local heaps are as they were
-  unchanged : (command : LoadingCommand) (reply : printed.Reply) (mid : World) (new : LoadingWorld) → mid ≡ record old { loading = new } → (may_take_bytes (OfLoading command) ≡ false → step_may_take old.loading command ≡ false)
+  unchanged : (command : LoadingCommand) (reply : printed.Reply) (mid : World) (new : LoadingWorld) → mid ≡ record old { loading = new }
+      → (may_take_bytes (OfLoading command) ≡ false → step_may_take old.loading command ≡ false)
       → StepOver honest ne_format old.loading command reply new → Step honest ne_format old (OfLoading command) reply (with_surviving mid (OfLoading command))
   unchanged command reply mid new same none s = rw same (swept command reply new none s)
 
@@ -44,7 +51,8 @@ module _ (honest : Type 0) (old : World) (is : IsWorldOver honest old) where
       C.code_reads_law honest ne_format old.loading new.loading pointer count bytes slot handle number m h is.0.loading (is.1 h) far.0 named segment coded
 
   -- and what is asked room for
-  pub asks : (command : Command) (reply : printed.Reply) (new : World) → Step honest ne_format old command reply new → (asked : LoadingCommand) → command ≡ OfLoading asked → FewestOver honest ne_format old.loading asked reply new.loading
+  pub asks : (command : Command) (reply : printed.Reply) (new : World) → Step honest ne_format old command reply new
+      → (asked : LoadingCommand) → command ≡ OfLoading asked → FewestOver honest ne_format old.loading asked reply new.loading
   asks command reply new s asked e =
       let step : Step honest ne_format old (OfLoading asked) reply new = rw e at s in
       requests_fewest_law honest ne_format old.loading new.loading asked reply is.0.loading step.0
@@ -61,7 +69,8 @@ module _ (honest : Type 0) (old : World) (is : IsWorldOver honest old) where
   recounted failures counted =
       let told : printed.Reply = Dword old.loading.handles.moved in
       let new : LoadingWorld = record old.loading { failures = failures } in
-      kept (OfLoading (OfHandles Moved)) told (record old { loading = new }) tt (swept (OfHandles Moved) told new (λ e. e) (record { counted = counted; files = refl; step = (old.loading.handles, (refl, refl), refl) }))
+      kept (OfLoading (OfHandles Moved)) told (record old { loading = new }) tt
+      (swept (OfHandles Moved) told new (λ e. e) (record { counted = counted; files = refl; step = (old.loading.handles, (refl, refl), refl) }))
 
   -- What the kernel tells of a reply: the step, what a run of it promises, and that it leaves a world.
   module _ (command : Command) (reply : Reply) (mid : World) (step : C.Unswept honest old command (reply_of reply) mid) where
@@ -78,7 +87,8 @@ module _ (honest : Type 0) (old : World) (is : IsWorldOver honest old) where
     told_world known = kept command _ _ known made
 
 -- What a call on local heaps does in whatever world, it does in one.
-pub local_step : {E : Type 0} (honest : Type 0) (old new : World → World) (command : Command) (r : C.Result Reply E) → C.IfOk r (λ reply. (rest : World) → C.OnLocals (old rest) command (reply_of reply) (new rest))
+pub local_step : {E : Type 0} (honest : Type 0) (old new : World → World) (command : Command) (r : C.Result Reply E)
+    → C.IfOk r (λ reply. (rest : World) → C.OnLocals (old rest) command (reply_of reply) (new rest))
     → (rest : World) → C.IfOk r (λ reply. C.Unswept honest (old rest) command (reply_of reply) (new rest))
 local_step honest old new command (C.Err e) s rest = tt
 local_step honest old new (C.OfLocals command) (C.Ok reply) s rest = s rest
@@ -87,3 +97,14 @@ local_step honest old new (OfLoading command) (C.Ok reply) s rest = absurd (s re
 pub wanted_at : {A E : Type 0} (P : World → Type 0) (r : C.Result A E) → C.OnErr r ((rest : World) → P rest) → (rest : World) → C.OnErr r (P rest)
 wanted_at P (C.Ok a) wanted rest = tt
 wanted_at P (C.Err e) wanted rest = wanted rest
+
+-- A question leaves the world as it is.
+pub answered : (honest : Type 0) (w : World) → IsWorldOver honest w → (command : HandleCommand) (reply : Reply) → IsCommand (OfLoading (OfHandles command))
+    → OnHandles w.loading.handles (OfHandles command) (reply_of reply) w.loading.handles → may_take_bytes (OfLoading (OfHandles command)) ≡ false → IsAnswered honest w command (reply_of reply)
+answered honest w is command reply known on none =
+    let c = OfLoading (OfHandles command) in
+    let same : with_surviving w c ≡ w = λ i. record w { heaps = C.surviving_heaps (none i) w.loading.handles.heap w.heaps } in
+    record {
+      step = C.subst (λ (x : World). C.KernelStep honest w c (reply_of reply) x) same (told_step honest w is c reply w (on, refl));
+      promises = C.subst (λ (x : World). C.Promises w (record { command = c; reply = reply_of reply; after = x } ∷ [])) same (told_promises honest w is c reply w (on, refl) known);
+    }

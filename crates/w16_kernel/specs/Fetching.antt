@@ -17,7 +17,8 @@ pub record IsAbsent (handles : Handles) (selector : ℕ) : Type 0 where
 
 -- a fetch over a store
 abbrev pub KernelFetch : Type 0 → LoadingWorld → ℕ → Option FetchFault → LoadingWorld → Type 0
-KernelFetch honest old slot fault new = IsLater old.files old.failures new.files new.failures × FetchesOver honest ne_format old.failures new.failures old slot fault (record new { failures = old.failures })
+KernelFetch honest old slot fault new = IsLater old.files old.failures new.files new.failures
+    × FetchesOver honest ne_format old.failures new.failures old slot fault (record new { failures = old.failures })
 
 -- What becomes of an access that met a fault. The object is fetched, and the access is to be made again; or it couldn't be fetched, or none had
 -- to be, and that is the reply.

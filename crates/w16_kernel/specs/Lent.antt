@@ -41,7 +41,8 @@ IsFarFault reply = ⊥
 -- An access that copies nothing is a read of the bytes at the place that it answers; if they are to be written, it is a write of whatever is left
 -- there. Where there is none, the reply is what each such access would have got.
 abbrev pub FindsPlace : Type 0 → World → Bool → ℕ → ℕ → Result Place code.Reply → World → Type 0
-FindsPlace honest old write pointer count (Ok place) new = KernelStep honest old (OfLoading (OfFar (Read pointer count))) (Bytes (lent_bytes new.loading.handles place)) new × IsFound count new.loading.handles place × (write ≡ true → IsTaken honest old pointer new place)
+FindsPlace honest old write pointer count (Ok place) new = KernelStep honest old (OfLoading (OfFar (Read pointer count))) (Bytes (lent_bytes new.loading.handles place)) new
+    × IsFound count new.loading.handles place × (write ≡ true → IsTaken honest old pointer new place)
 FindsPlace honest old write pointer count (Err reply) new = OfEach write pointer count (λ command. KernelStep honest old (OfLoading (OfFar command)) (reply_of reply) new)
 
 -- the world once a place was lent, and others are left there

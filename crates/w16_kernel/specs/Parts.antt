@@ -9,7 +9,8 @@ use Rattle.w16_loading.specs.Resizes.ResizeCommand.{GlobalReAlloc, GlobalDiscard
 use Rattle.w16_loading.specs.{Fewest.FewestOver, Answers.StepOver, Families.LoadingCommand, Law.is_code, Fetch.segment_bytes, Law.IsOfFiles, Replies.Reply, Replies.Reply.Bytes, Replies.Reply.Word}
 use Rattle.w16_format.specs.Ne.{ne_format}
 use Rattle.w16_machine.specs.LocalStays.{call_may_take, modules_may_take, resources_may_take}
-use Rattle.w16_machine.specs.{World.World, Law.IsWorld, Local.has_range, Local.left_in, LocalCalls.LocalStep, Machine.Command, Law.OnHandles, Machine.Step, Machine.Command.OfLoading, Machine.Command.OfLocals}
+use Rattle.w16_machine.specs.{World.World, Law.IsWorld, Local.has_range, Local.left_in, LocalCalls.LocalStep, Machine.Command, Law.OnHandles}
+use Rattle.w16_machine.specs.{Machine.Step, Machine.Command.OfLoading, Machine.Command.OfLocals}
 use Rattle.std.specs.FinMap as finmap
 
 -- the world that these parts are

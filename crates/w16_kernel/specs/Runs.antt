@@ -3,8 +3,10 @@ use Rattle.w16_kernel.specs
 use Rattle.std.specs.Prelude.{◌≤◌, ℕ, Bool, true, false, List, length, IsSome}
 use Rattle.w16_loading.specs.Families.LoadingCommand.{OfHandles, OfResizes, OfFar, OfModules, OfResources}
 use Rattle.w16_machine.specs.{World.World, Local.beginning, Machine.Command, Machine.Command.OfLoading, Machine.Command.OfLocals}
-use specs.declared.call.Call.TheVariants.{GlobalAlloc, GlobalFree, GlobalLock, GlobalUnlock, GlobalSize, GlobalFlags, GlobalHandle, GetSelectorBase, GetSelectorLimit, GlobalCompact, GlobalReAlloc, GlobalDiscard, GlobalLRUNewest, GlobalLRUOldest, Moved, Walk, Read, Write, Fill, LocalInit}
-use specs.declared.call.Call.TheVariants.{LocalAlloc, LocalReAlloc, LocalDiscard, LocalFree, LocalLock, LocalUnlock, LocalSize, LocalFlags, LocalHandle, LocalCompact, DS, Builtin, LoadModule, LoadLibrary, FreeLibrary, FreeModule, GetModuleHandle, GetModuleUsage, GetProcAddress}
+use specs.declared.call.Call.TheVariants.{GlobalAlloc, GlobalFree, GlobalLock, GlobalUnlock, GlobalSize, GlobalFlags, GlobalHandle, GetSelectorBase, GetSelectorLimit, GlobalCompact}
+use specs.declared.call.Call.TheVariants.{GlobalReAlloc, GlobalDiscard, GlobalLRUNewest, GlobalLRUOldest, Moved, Walk, Read, Write, Fill, LocalInit}
+use specs.declared.call.Call.TheVariants.{LocalAlloc, LocalReAlloc, LocalDiscard, LocalFree, LocalLock, LocalUnlock, LocalSize, LocalFlags, LocalHandle, LocalCompact, DS, Builtin}
+use specs.declared.call.Call.TheVariants.{LoadModule, LoadLibrary, FreeLibrary, FreeModule, GetModuleHandle, GetModuleUsage, GetProcAddress}
 use specs.declared.call.Call.TheVariants.{FindResource, LoadResource, LockResource, FreeResource, SizeofResource}
 use specs.declared.call.TheConstants.{MOST_READ, MOST_FILLED}
 use specs.{declared.call.Call.Call, declared.call.Label.Label, declared.call.Reply.Reply, declared.call.Answer.Answer, declared.far.Written.Written}

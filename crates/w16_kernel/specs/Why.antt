@@ -2,13 +2,15 @@
 use Rattle.std.specs.Prelude.{◌≡◌, ◌%◌, ◌<◌, ℕ, true, false, None, IsNone, IsSome, option_map, unwrap_or}
 use Rattle.w16_model.specs.Calls.HandleCommand.{GlobalSize, GlobalFlags, GlobalHandle, GetSelectorBase, GetSelectorLimit}
 use Rattle.w16_model.specs.Far.FarCommand.{Read, Write, Fill}
-use Rattle.w16_model.specs.{Calls.global_flags, Calls.global_handle, Calls.global_size, Calls.has_flag, Calls.selector_limit, CallLaws.handle_in, Outcomes.Call.Calls, Handles.selector_in, Handles.slot_of_handle, Owned.owns, declared.TheConstants.GMEM_DISCARDABLE}
+use Rattle.w16_model.specs.{Calls.global_flags, Calls.global_handle, Calls.global_size, Calls.has_flag, Calls.selector_limit, CallLaws.handle_in, Outcomes.Call.Calls}
+use Rattle.w16_model.specs.{Handles.selector_in, Handles.slot_of_handle, Owned.owns, declared.TheConstants.GMEM_DISCARDABLE}
 use Rattle.w16_loading.specs.Families.LoadingCommand.{OfHandles, OfResizes, OfFar, OfModules, OfResources}
 use Rattle.w16_loading.specs.Families.ModuleCommand.{FreeLibrary, FreeModule, GetModuleUsage, GetProcAddress}
 use Rattle.w16_loading.specs.Families.ResourceCommand.{FindResource, LoadResource, SizeofResource}
 use Rattle.w16_loading.specs.Resizes.ResizeCommand.{GlobalReAlloc, GlobalDiscard}
 use Rattle.w16_machine.specs.LocalCalls.LocalCommand.{LocalInit, DS}
-use Rattle.w16_machine.specs.{Local.current_heap, Local.object_named, LocalCalls.asked_of, LocalCalls.local_flags, LocalCalls.local_size, LocalLaw.named_by, Machine.Command, Machine.Command.OfLoading, Machine.Command.OfLocals, World.World, declared.local.TheConstants.LMEM_DISCARDABLE}
+use Rattle.w16_machine.specs.{Local.current_heap, Local.object_named, LocalCalls.asked_of, LocalCalls.local_flags, LocalCalls.local_size, LocalLaw.named_by, Machine.Command}
+use Rattle.w16_machine.specs.{Machine.Command.OfLoading, Machine.Command.OfLocals, World.World, declared.local.TheConstants.LMEM_DISCARDABLE}
 use Rattle.w16_kernel.specs.declared.kernel.why.Why.{Why}
 use Rattle.std.specs.FinMap as finmap
 use Rattle.w16_kernel.specs.declared.kernel.why.Why.TheVariants as why

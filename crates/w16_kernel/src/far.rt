@@ -21,13 +21,14 @@ ghost use Rattle.w16_resource.specs.Parts.{IsLoadingOver};
 ghost use Rattle.w16_kernel.specs.Runs.{IsReply, bytes_written, reply_of, write_of};
 
 use crate::call::{MOST_READ, Reply};
-use crate::parts::{Loading, Parts, sweep_all};
+use crate::parts::{Parts, sweep_all};
 use std::alloc::Allocator;
 use w16_global::Place;
 use w16_loader::{Registry, SegmentSource, fetch};
 use w16_loading::FetchFault;
 use w16_model::FarFault;
 use w16_model::names::{offset_in, selector_in, slot_of};
+use w16_resource::Loading;
 use w16_store::{Store, reveal_bytes};
 
 /// Where the bytes of the object in a slot come from, in which no resource is; none where it is no module's segment.
@@ -80,13 +81,7 @@ fn fetch_owned<S: Store + Drop, A: Allocator + Copy>(
     if !loading.resources.owns(slot_of(handle)) {
         return fetch_segment(loading, handle);
     }
-    loading.resources.fetch(
-        &loading.registry,
-        &mut loading.global,
-        &mut loading.store,
-        &mut loading.scratch,
-        handle,
-    )
+    loading.fetch_resource(handle)
 }
 
 /// Fetches the object that a selector leads to, which has no bytes, where a segment or a resource of a module is in it. An error is the reply of the

@@ -1,6 +1,6 @@
 //! A store in memory that takes new files while a machine runs.
-ghost use Rattle.std.specs.Prelude.{◌≡◌, ◌<◌, [], length, None, IfErr, IfSome, OnOk, OnErr, option_map, IfOk};
-ghost use Rattle.w16_store.specs.Files.{file_of, length_of, AreWith, HasBytes, IsHonestAnswer, IsMissing};
+ghost use Rattle.std.specs.Prelude.{◌≡◌, ◌<◌, [], length, None, IfErr, IfSome, IsFalse, IsTrue, OnOk, OnErr, is_some, option_map, IfOk};
+ghost use Rattle.w16_store.specs.Files.{file_of, length_of, AreWith, AreWithout, HasBytes, IsHonestAnswer, IsMissing};
 ghost use Rattle.w16_store.specs.Later.{IsLater, RoseIf, is_device};
 ghost use Rattle.w16_kernel.specs.Growing.{missed_by, IsNotAdded};
 
@@ -28,6 +28,17 @@ pub enum AddFault {
     /// There was no memory.
     #[error("out of memory")]
     Memory,
+}
+
+/// Why a file isn't taken away.
+#[derive(Debug, Clone, Copy, PartialEq, Eq, Drop, Error)]
+pub enum RemoveFault {
+    /// No file has the name.
+    #[error("no file of that name")]
+    Missing,
+    /// A module is loaded from it.
+    #[error("a module is loaded from the file")]
+    InUse,
 }
 
 /// Files in memory, to which others come as loads ask for them. None is replaced, since a module may have been loaded from it.
@@ -81,6 +92,15 @@ impl GrowingStore {
         }
         self.missed = None;
         Ok(())
+    }
+
+    /// Takes a file away; whether one had the name.
+    pub fn remove(&mut self, name: &[u8]) -> bool
+        ensures had { result ≡ is_some (file_of self.old.files name.now) }
+        ensures gone { IsTrue result → AreWithout name.now self.old.files self.new.files }
+        ensures kept { IsFalse result → self.new ≡ self.old }
+    {
+        self.files.remove(name)
     }
 
     /// The name by which a length was last asked for, as a load does first of each file, if no file has it; none where a file was added since, or

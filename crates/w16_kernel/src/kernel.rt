@@ -6,7 +6,7 @@ ghost use Rattle.w16_machine.specs.Law.{IsSame, IsWorldWalk, empty_world};
 ghost use Rattle.w16_machine.specs.Machine.{Event, Run};
 ghost use Rattle.w16_writes.specs.Promises.{Promises};
 ghost use Rattle.w16_store.specs.Files.{file_of};
-ghost use Rattle.w16_kernel.specs.Growing.{AddsFile, IsNotAdded};
+ghost use Rattle.w16_kernel.specs.Growing.{AddsFile, IsNotAdded, IsNotRemoved, RemovesFile};
 ghost use Rattle.w16_kernel.specs.Parts.{KernelStep};
 ghost use Rattle.w16_kernel.specs.Runs.{command_of, reply_of, answer_of, IsCall, IsReply, TakesMemory};
 ghost use Rattle.w16_kernel.specs.Stops.{StopsEarly};
@@ -16,11 +16,13 @@ pub mod facts;
 mod lent;
 pub mod modules;
 mod peek;
+mod questions;
 pub mod why;
 
 use crate::call::{Answer, Call, MOST_READ, Reply};
-use crate::growing::{AddFault, GrowingStore};
-use crate::parts::{Loading, Parts};
+use crate::growing::{AddFault, GrowingStore, RemoveFault};
+use crate::kernel::modules::is_loaded_from;
+use crate::parts::Parts;
 use crate::step::made;
 use std::alloc::{AllocError, Allocator, Global};
 use std::marker::Model;
@@ -29,7 +31,7 @@ use w16_loader::Registry;
 use w16_local::LocalHeaps;
 use w16_model::{GRAIN, Item, MOST_SLOTS};
 use w16_reloc::Scratch;
-use w16_resource::Resources;
+use w16_resource::{Loading, Resources};
 use w16_store::Store;
 
 /// The machine over a store of module files. Its value is the world that a script sees.
@@ -164,6 +166,22 @@ impl<A: Allocator + Copy> Kernel<GrowingStore, A> {
         match self.parts.loading.store.add(name, bytes) {
             Ok(()) => Ok(()),
             Err(fault) => Err(fault),
+        }
+    }
+
+    /// Takes a module file away, from which no module is loaded: one that is reads its code there when that was discarded. A fault changes nothing.
+    pub fn remove_file(&mut self, name: &[u8]) -> Result<(), RemoveFault>
+        ensures removed { OnOk result (RemovesFile self.old name.now self.new) }
+        ensures fault { IfErr result (IsNotRemoved self.old.loading name.now) }
+        ensures same { OnErr result (self.new ≡ self.old) }
+    {
+        if is_loaded_from(&self.parts.loading.registry, name) {
+            return Err(RemoveFault::InUse);
+        }
+        if self.parts.loading.store.remove(name) {
+            Ok(())
+        } else {
+            Err(RemoveFault::Missing)
         }
     }
 

@@ -14,7 +14,7 @@ mod sizes;
 mod step;
 
 pub use call::{Answer, Call, Chunk, Label, MOST_FILLED, MOST_READ, Reply};
-pub use growing::{AddFault, GrowingStore, MOST_NAME};
+pub use growing::{AddFault, GrowingStore, MOST_NAME, RemoveFault};
 pub use kernel::Kernel;
 pub use kernel::facts::{Facts, Source};
 pub use kernel::modules::{Export, Start};

@@ -3,7 +3,7 @@ ghost use Rattle.std.specs.Prelude.{◌≡◌, IfOk, OnErr};
 ghost use Rattle.w16_loading.specs.Answers.{StepOver};
 ghost use Rattle.w16_loading.specs.Families as families;
 ghost use Rattle.w16_loading.specs.Families.{pointer_to, proc_address};
-ghost use Rattle.w16_loader.specs.Loading.{answer_in};
+ghost use Rattle.w16_loader.specs.Loading.{load_answer};
 ghost use Rattle.w16_loading.specs.Free.{Frees};
 ghost use Rattle.w16_loading.specs.Families.LoadingCommand.{OfModules};
 ghost use Rattle.w16_loading.specs.Modules.{LoadingWorld};
@@ -13,11 +13,11 @@ ghost use Rattle.w16_kernel.specs.Parts.{IsSameLoading};
 ghost use Rattle.w16_kernel.specs.Runs.{label_of, load_command, reply_of, IsReply};
 
 use crate::call::{Label, Reply};
-use crate::parts::Loading;
 use std::alloc::{AllocError, Allocator};
 use w16_loader::{LoadAnswer, Registry, free, load};
 use w16_loading::FetchFault;
 use w16_model::names::dword_of;
+use w16_resource::Loading;
 use w16_store::Store;
 
 /// The reply to `LoadModule`, or to `LoadLibrary`. An error is that there was no memory, and then the world is the same.
@@ -45,7 +45,7 @@ pub fn load_reply<S: Store + Drop, A: Allocator + Copy>(
 
 /// The reply that tells what a load answered.
 fn reply_to_load(answer: LoadAnswer) -> Reply<'static>
-    ensures told { reply_of result ≡ families.reply_of (answer_in answer) }
+    ensures told { reply_of result ≡ families.reply_of (load_answer answer) }
     ensures short { IsReply result }
 {
     match answer {
@@ -64,9 +64,7 @@ pub fn free_module<S: Store + Drop, A: Allocator + Copy>(
     ensures unread { (loading.new.files ≡ loading.old.files) × (loading.new.failures ≡ loading.old.failures) }
 {
     let answer = free(&mut loading.registry, &mut loading.global, handle);
-    loading
-        .resources
-        .sweep(&loading.registry, &mut loading.global);
+    loading.sweep_resources();
     answer
 }
 

@@ -24,8 +24,9 @@ pub trait Machine {
     /// The steps that it may take.
     ghost steps: { World → Command → printed.Reply → World → Type 0 };
 
-    /// One call: a step that it may take, and a run of one step, which keeps what each run promises. Bytes that are read are put into the room. An error is that there was no memory, for a new local heap, a built-in or a load, and the world is the same except for
-    /// the count of the store's failures.
+    /// One call: a step that it may take, and a run of one step, which keeps what each run promises. Bytes that are read are put into the room. An
+    /// error is that there was no memory, for a new local heap, a built-in or a load, and the world is the same except for the count of the store's
+    /// failures.
     fn call<'r>(
         &mut self,
         call: &Call<'_>,

@@ -13,11 +13,11 @@ ghost use Rattle.w16_resource.specs.Parts.{IsLoadingOver, dword_in, word_in};
 ghost use Rattle.w16_kernel.specs.Runs.{label_of, reply_of, IsReply};
 
 use crate::call::{Label, Reply};
-use crate::parts::Loading;
 use std::alloc::Allocator;
 use w16_loader::Registry;
 use w16_loading::FetchFault;
 use w16_ne::ResourceName;
+use w16_resource::Loading;
 use w16_store::Store;
 
 /// A label as the tables of files have it.
@@ -75,15 +75,7 @@ pub fn load_resource<S: Store + Drop, A: Allocator + Copy>(
     ensures step { StepOver S.is_honest ne_format loading.old (OfResources (LoadResource handle place)) (reply_of result) loading.new }
     ensures short { IsReply result }
 {
-    let answer = loading.resources.load(
-        &loading.registry,
-        &mut loading.global,
-        &mut loading.store,
-        &mut loading.scratch,
-        handle,
-        place,
-    );
-    word_reply(answer)
+    word_reply(loading.load_resource(handle, place))
 }
 
 /// The reply to `LockResource`.
@@ -96,12 +88,5 @@ pub fn lock_resource<S: Store + Drop, A: Allocator + Copy>(
     ensures step { StepOver S.is_honest ne_format loading.old (OfResources (LockResource handle)) (reply_of result) loading.new }
     ensures short { IsReply result }
 {
-    let answer = loading.resources.lock(
-        &loading.registry,
-        &mut loading.global,
-        &mut loading.store,
-        &mut loading.scratch,
-        handle,
-    );
-    dword_reply(answer)
+    dword_reply(loading.lock_resource(handle))
 }

@@ -14,13 +14,13 @@ ghost use Rattle.w16_kernel.specs.Parts.{IsOfLocals, IsOfModules, IsOnGlobal, Is
 use crate::call::{Call, Reply};
 use crate::far::{Written, read, write};
 use crate::load::{free_module, load_reply, proc_address};
-use crate::parts::{Loading, Parts, refresh, sweep_all, sweep_slot};
+use crate::parts::{Parts, refresh, sweep_all, sweep_slot};
 use crate::resource::{find_resource, load_resource, lock_resource};
 use std::alloc::{AllocError, Allocator};
 use w16_global::Global16;
 use w16_local::LocalHeaps;
 use w16_model::Item;
-use w16_resource::size_of_resource;
+use w16_resource::{Loading, size_of_resource};
 use w16_store::{Store, reveal_bytes};
 
 /// How many parts the heap's walk has.
@@ -179,9 +179,7 @@ fn module_reply<S: Store + Drop, A: Allocator + Copy>(
         }
         LoadResource { handle, place } => Ok(load_resource(loading, handle, place)),
         LockResource { handle } => Ok(lock_resource(loading, handle)),
-        FreeResource { handle } => {
-            Ok(Reply::Word(loading.resources.free(&mut loading.global, handle)))
-        }
+        FreeResource { handle } => Ok(Reply::Word(loading.free_resource(handle))),
         SizeofResource { handle, place } => {
             Ok(Reply::Dword(size_of_resource(&loading.registry, handle, place)))
         }

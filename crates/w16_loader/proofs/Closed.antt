@@ -1,9 +1,9 @@
 -- The new modules of a load, bound and filled, are what loading says of its closure.
 use Rattle.w16_loader.proofs
 use proofs.Common as C
-use proofs.Common.{◌≡◌, ◌≢◌, ℕ, ◌+◌, ◌<◌, ◌≤◌, inl, inr, ◌⊎◌, true, false, List, [], ◌∷◌, ◌++◌, length, map, fold, zip, flat_map, All, slice_index_or, Option, Some, None, OnErr, IfSome, IsSomeAnd, Ok, Err, refl, sym, ap, ◌∙◌, subst, arith, AllZip, file_of, is_member, AreHandles}
+use proofs.Common.{◌≡◌, ◌≢◌, ℕ, ◌+◌, ◌<◌, inl, inr, ◌⊎◌, true, false, List, [], ◌∷◌, ◌++◌, length, map, fold, zip, flat_map, All, slice_index_or, Option, Some, None, OnErr, IfSome, IsSomeAnd, Ok, Err, refl, sym, ap, ◌∙◌, subst, arith, AllZip, file_of, is_member, AreHandles}
 use proofs.Common.{false≢true, Heap, Owned, Member, Far, ModuleFile, IsModuleFile, Segment, Target, targets_of, InTurn, LoadingWorld, Module, Modules, Named, module_at, Loaded, without_module, Given, given, given_from, with_modules, bound, named, fills, Fulfils, left, Says, without_values}
-use proofs.Common.{put_here, ne_format, is_format, AreSaid, AreTargets, IsSaid, all_bound, Files, said, IsUnfilled, fills_with, slots_at, IsOfFile, answer_in, of_fault}
+use proofs.Common.{put_here, ne_format, is_format, AreSaid, AreTargets, IsSaid, all_bound, Files, said, IsUnfilled, fills_with, slots_at, IsOfFile}
 use proofs.Undoing.{undone_by_release}
 use proofs.Fulfilled.{all_bound_are, fills_are, targets_in}
 use Rattle.std.specs.List.{AllByRecursion as Each}
@@ -11,7 +11,8 @@ use Rattle.w16_loading.specs.Closure.{Found}
 use Rattle.std.specs.FinMap as finmap
 use Rattle.w16_loading.specs.Fill as loading
 use Rattle.w16_loading.specs.declared.FetchFault.TheVariants as fetches
-use Rattle.w16_loader.specs.declared.binding.BindFault.TheVariants as binds
+use Rattle.w16_loading.specs.declared.LoadRefusal.TheVariants.{NoFile}
+use Rattle.w16_loader.specs.declared.fault.LoadFault.TheVariants as faults
 use Rattle.w16_loader.specs.declared.closure.Closure as kept
 
 -- Lists that go with the modules of a load.
@@ -79,20 +80,21 @@ each_long modules first tables place (f ∷ fs) (h ∷ hs) (s ∷ ss) (ts ∷ ta
 stored_in : (files : Files) (f : Found) (p : Option (List ℕ)) → file_of files f.file ≡ p → said p ≡ Ok f.read → (file : List ℕ) × (file_of files f.file ≡ Some file) × (ne_format.says file ≡ Ok f.read)
 stored_in files f None e h = absurd (not_ok h)
   where
-    not_ok : ◌≡◌ {A = C.Result ModuleFile ℕ} (Err 2) (Ok f.read) → ⊥
+    not_ok : ◌≡◌ {A = C.OrRefused ModuleFile} (Err NoFile) (Ok f.read) → ⊥
     not_ok h = cc
 stored_in files f (Some bytes) e h = (bytes, e, h)
 
 -- What a load answers that fails.
 
-pub refusal_is : (place : ℕ) (fault : C.FetchFault) → answer_in (of_fault place fault) ≡ C.refusal_of place fault
-refusal_is place fetches.Store = refl
-refusal_is place fetches.NoRoom = refl
-refusal_is place fetches.Damaged = refl
+pub failure_by : (P : C.Answer → Type 0) (place : ℕ) (fault : C.FetchFault) → P (C.refusal_of place fault) → C.IfOk (C.refused_by (C.fault_of_failure place fault)) (λ answer. P (C.load_answer answer))
+failure_by P place fetches.Store h = h
+failure_by P place fetches.NoRoom h = h
+failure_by P place fetches.Damaged h = h
 
-pub err_by : (fault : C.BindFault) (P : Type 0) → (fault ≡ binds.OutOfMemory → P) → OnErr (C.failed_by fault) P
-err_by (binds.Failed f) P h = tt
-err_by binds.OutOfMemory P h = h refl
+pub err_by : (fault : C.LoadFault) (P : Type 0) → (fault ≡ faults.OutOfMemory → P) → OnErr (C.refused_by fault) P
+err_by (faults.Refused refusal) P h = tt
+err_by faults.Device P h = tt
+err_by faults.OutOfMemory P h = h refl
 
 pub first_of : (xs : List ℕ) (a : ℕ) → 0 < length xs → a ≡ slice_index_or xs 0 a → slice_index_or xs 0 0 ≡ a
 first_of [] a some e = absurd (omega (arith, some))
@@ -262,9 +264,9 @@ module _ (old : LoadingWorld) (meant : C.Closure) (handles : List ℕ) (mid : Lo
       -- a load of which an object got no bytes
       pub unfilled_load : AreHandles old.handles → (place : ℕ) (fault : C.FetchFault) (heap : Heap)
           → InTurn gives mid.handles.heap (fills_with modules 0 handles reads) (Some (record { place = place; fault = fault })) heap
-          → Fulfils gives old meant (answer_in (of_fault place fault)) (fold without_module (record mid { modules = modules; handles = record mid.handles { heap = heap } }) handles)
-      unfilled_load is place fault heap filled = fulfils (Some (record { place = place; fault = fault })) heap filled (answer_in (of_fault place fault))
-          (fold without_module (record mid { modules = modules; handles = record mid.handles { heap = heap } }) handles) (refusal_is place fault) (released is heap)
+          → Fulfils gives old meant (C.refusal_of place fault) (fold without_module (record mid { modules = modules; handles = record mid.handles { heap = heap } }) handles)
+      unfilled_load is place fault heap filled = fulfils (Some (record { place = place; fault = fault })) heap filled (C.refusal_of place fault)
+          (fold without_module (record mid { modules = modules; handles = record mid.handles { heap = heap } }) handles) refl (released is heap)
 
       pub filled_load : (heap : Heap) → InTurn gives mid.handles.heap (fills_with modules 0 handles reads) None heap
           → Fulfils gives old meant (Says (slice_index_or handles 0 0)) (record mid { modules = modules; handles = record mid.handles { heap = heap } })
@@ -283,7 +285,7 @@ module _ (old : LoadingWorld) (meant : C.Closure) (handles : List ℕ) (mid : Lo
         (λ g m. subst (λ p. IsSomeAnd p (λ x. IsSaid files x g.found.read)) (sym (ap (λ ms. module_at ms g.handle) mid_modules ∙ here first g m)) (is_said g m)))
 
     pub are_files : (g : Given) → Member g gs → IsModuleFile g.found.read
-    are_files g m = let is = is_said g m in subst (λ r. C.MatchResult r IsModuleFile (λ answer. (11 ≤ answer) × (answer ≤ 14))) is.accepted (is_format.files is.file)
+    are_files g m = let is = is_said g m in subst (λ r. C.MatchResult r IsModuleFile (λ refusal. C.is_of_format refusal ≡ true)) is.accepted (is_format.files is.file)
 
     module _ (modules : Modules) (b : modules ≡ all_bound (finmap.get mid.modules) mid.modules handles (map (λ (read : ModuleFile). map targets_of read.segments) reads)) where
       pub still_said : AreSaid files modules handles reads

@@ -2,15 +2,14 @@
 use Rattle.w16_loader.proofs
 use proofs.Common as C
 use proofs.Common.{◌≡◌, ℕ, zero, suc, ◌+◌, ◌-◌, ◌<◌, ◌≤◌, inl, inr, Bool, true, false, List, [], ◌∷◌, ◌++◌, length, map, take, Some, None, Ok, Err, refl, sym, ap, ◌∙◌, subst, arith, slice_get, position, AllZip, length-take-le, is_named, Tables, Modules, dll, There, New, Refused, Meant}
-use proofs.Common.{Read, Found, Referent, Bound, Followed, FileFault, around_in, found_in, referent_of, IsFault, Files, answers_of, left_from, bound_in, found_after, referent_after, tables_in, IsFoundOf, Begins, reached_of, AreAccepted, AreHeld, ClosesTo, LeadsBy, LeadsTo, RefusesBy}
+use proofs.Common.{Read, Found, Referent, Bound, Followed, LoadFault, around_in, found_in, referent_of, IsFault, Files, answers_of, left_from, pair_of, found_after, referent_after, tables_in, IsFoundOf, Begins, reached_of, AreAccepted, AreHeld, ClosesTo, LeadsBy, LeadsTo, RefusesBy}
 use proofs.Pending.{next_left, last_left, more_left, none_left, first_left}
-use proofs.{Files.position_map, Files.there, Holdings.held_for}
+use proofs.{Files.position_map, Files.there, Holdings.held_for, Values.fault_so}
 use Rattle.w16_loading.specs.Answers.{Answers, ClosesFrom, ReadsFile, follow}
 use Rattle.w16_loader.specs.declared.closure.Closure.{Closure}
 use Rattle.w16_loading.specs.Closure as closing
-use Rattle.w16_ne.specs.Modules as ne
 use Rattle.w16_loader.specs.declared.closure.Followed.TheVariants as leads
-use Rattle.w16_loader.specs.declared.found.FileFault.TheVariants as faults
+use Rattle.w16_loader.specs.declared.fault.LoadFault.TheVariants as faults
 
 abbrev name_of : closing.Found → List ℕ
 name_of c = c.read.tables.name
@@ -80,19 +79,19 @@ module _ {A : Type 0} where
 
 module _ (answers : Answers) (a : C.Around) where
   reads_as : (fs gs : List closing.Found) → ((name : List ℕ) → closing.meant a fs name ≡ closing.meant a gs name) → length fs ≡ length gs → (file : List ℕ) (r : closing.Reading) → ReadsFile answers a fs file r → ReadsFile answers a gs file r
-  reads_as fs gs same many file (Refused number) (inl says) = inl says
-  reads_as fs gs same many file (Refused number) (inr (t, says, none, inl h)) = inr (t, says, sym (same t.name) ∙ none, inl h)
-  reads_as fs gs same many file (Refused number) (inr (t, says, none, inr h)) = inr (t, says, sym (same t.name) ∙ none, inr (h.0, (let le : a.free ≤ length fs = h.1 in omega (arith, le, many)), h.2))
+  reads_as fs gs same many file (Refused refusal) (inl says) = inl says
+  reads_as fs gs same many file (Refused refusal) (inr (t, says, none, inl h)) = inr (t, says, sym (same t.name) ∙ none, inl h)
+  reads_as fs gs same many file (Refused refusal) (inr (t, says, none, inr h)) = inr (t, says, sym (same t.name) ∙ none, inr (h.0, (let le : a.free ≤ length fs = h.1 in omega (arith, le, many)), h.2))
   reads_as fs gs same many file (Meant referent) (t, says, e) = (t, says, sym (same t.name) ∙ e)
   reads_as fs gs same many file (Read read) (says, none, sound, held, few) = (says, sym (same read.tables.name) ∙ none, sound, held, (let lt : length fs < a.free = few in omega (arith, lt, many)))
 
   -- One reference more.
-  module _ (closure : closing.Closure) (place : ℕ) (name : List ℕ) (rest : List (ℕ × List ℕ)) (pending : closure.pending ≡ (place, name) ∷ rest) (n : ℕ) (outcome : C.Result closing.Closure ℕ) where
+  module _ (closure : closing.Closure) (place : ℕ) (name : List ℕ) (rest : List (ℕ × List ℕ)) (pending : closure.pending ≡ (place, name) ∷ rest) (n : ℕ) (outcome : C.OrRefused closing.Closure) where
     abbrev left : closing.Closure
     left = record closure { pending = rest }
 
     abbrev Ends : closing.Reading → Type 0
-    Ends r = C.MatchResult (follow left place name r) (λ next. ClosesFrom answers a n next outcome) (λ number. outcome ≡ Err number)
+    Ends r = C.MatchResult (follow left place name r) (λ next. ClosesFrom answers a n next outcome) (λ refusal. outcome ≡ Err refusal)
 
     abbrev ByName : C.Option closing.Referent → Type 0
     ByName p = C.MatchOption p ((r : closing.Reading) × ReadsFile answers a closure.found (dll name) r × Ends r) (λ referent. ClosesFrom answers a n (closing.with_bound left place referent) outcome)
@@ -128,16 +127,16 @@ module _ {A : Type 0} (answers : Answers) (modules : Modules) (all : List closin
     has done many bounds = record { found = take many all; pending = left_from place done (take many all); bound = bounds }
 
     abbrev here : closing.Closure
-    here = has before (length found) (map bound_in bound)
+    here = has before (length found) (map pair_of bound)
 
-    pub refused_on : (number : ℕ) → C.IsRefusedName answers modules found name number → ClosesTo answers modules here (Err number)
-    refused_on number (none, (answer, reads, e)) = (1, by_file answers a here place name (left_from place done fs) pending 0 (Err number) (meant_same modules [] found all begins name ∙ none) (Refused answer) (reads_here (dll name) (Refused answer) reads) (ap Err e))
+    pub refused_on : (refusal : C.LoadRefusal) → C.IsRefusedName answers modules found name refusal → ClosesTo answers modules here (Err refusal)
+    refused_on refusal (none, (why, reads, e)) = (1, by_file answers a here place name (left_from place done fs) pending 0 (Err refusal) (meant_same modules [] found all begins name ∙ none) (Refused why) (reads_here (dll name) (Refused why) reads) (ap Err e))
 
-    pub follows_on : (followed : Followed A) → LeadsTo answers modules found name followed → Begins (found_after found followed) all → (n : ℕ) (outcome : C.Result closing.Closure ℕ)
-        → ClosesFrom answers a n (has done (length (found_after found followed)) (map bound_in (bound ++ record { place = place; referent = referent_after (length found) followed } ∷ []))) outcome
+    pub follows_on : (followed : Followed A) → LeadsTo answers modules found name followed → Begins (found_after found followed) all → (n : ℕ) (outcome : C.OrRefused closing.Closure)
+        → ClosesFrom answers a n (has done (length (found_after found followed)) (map pair_of (bound ++ record { place = place; referent = referent_after (length found) followed } ∷ []))) outcome
         → ClosesFrom answers a (suc n) here outcome
     follows_on (leads.Meant referent) h more n outcome c =
-        let b = sym (C.map-append bound_in bound (record { place = place; referent = referent } ∷ [])) in
+        let b = sym (C.map-append pair_of bound (record { place = place; referent = referent } ∷ [])) in
         let next : ClosesFrom answers a n (closing.with_bound (record here { pending = left_from place done fs }) place (referent_of referent)) outcome =
         subst (λ bs. ClosesFrom answers a n (record { found = fs; pending = left_from place done fs; bound = bs }) outcome) (sym b) c in
         by_case h next
@@ -165,8 +164,8 @@ module _ {A : Type 0} (answers : Answers) (modules : Modules) (all : List closin
         its_references : (x : At found all place f) → done ≤ length x.c.read.tables.references
         its_references x = let same : length x.c.read.tables.references ≡ length f.module.references = ap (λ (t : Tables). length t.references) x.is.1 in omega (arith, same, le)
 
-        new_is : (m : Next found all g) → closing.with_bound (closing.with_found (has done (length found) (map bound_in bound)) (dll name) m.c.read) place (New (length fs))
-            ≡ has done (length (found_after found (leads.New g))) (map bound_in (bound ++ record { place = place; referent = referent_after (length found) (leads.New g) } ∷ []))
+        new_is : (m : Next found all g) → closing.with_bound (closing.with_found (has done (length found) (map pair_of bound)) (dll name) m.c.read) place (New (length fs))
+            ≡ has done (length (found_after found (leads.New g))) (map pair_of (bound ++ record { place = place; referent = referent_after (length found) (leads.New g) } ∷ []))
         new_is m =
             let x = at_place found all begins place f at in
             let its_file = m.is.0 ∙ file in
@@ -174,8 +173,8 @@ module _ {A : Type 0} (answers : Answers) (modules : Modules) (all : List closin
             let t : fs ++ m.c ∷ [] ≡ take (length (found ++ g ∷ [])) all = sym m.taken ∙ ap (λ k. take k all) many in
             let p : left_from place done fs ++ C.references_of (length fs) m.c ≡ left_from place done (take (length (found ++ g ∷ [])) all) =
             sym (more_left fs place x.c x.at done m.c (its_references x)) ∙ ap (left_from place done) t in
-            let b = ap (λ k. map bound_in bound ++ (place, New k) ∷ []) long ∙ sym (C.map-append bound_in bound (record { place = place; referent = referent_after (length found) (leads.New g) } ∷ [])) in
-            (λ i. record { found = fs ++ record { file = sym its_file i; read = m.c.read } ∷ []; pending = left_from place done fs ++ C.references_of (length fs) m.c; bound = map bound_in bound ++ (place, New (length fs)) ∷ [] })
+            let b = ap (λ k. map pair_of bound ++ (place, New k) ∷ []) long ∙ sym (C.map-append pair_of bound (record { place = place; referent = referent_after (length found) (leads.New g) } ∷ [])) in
+            (λ i. record { found = fs ++ record { file = sym its_file i; read = m.c.read } ∷ []; pending = left_from place done fs ++ C.references_of (length fs) m.c; bound = map pair_of bound ++ (place, New (length fs)) ∷ [] })
             ∙ (λ i. record { found = t i; pending = p i; bound = b i })
 
   -- after the last reference of a module come those of the next
@@ -219,20 +218,19 @@ module _ {A : Type 0} (answers : Answers) (modules : Modules) where
           found = take (length (found_after old.found.items followed)) all;
           pending = left_from place number
               (take (length (found_after old.found.items followed)) all);
-          bound = map bound_in
+          bound = map pair_of
               (old.bound.items ++ record { place = place; referent = referent_after (length old.found.items) followed } ∷
               []);
         } =
-        (λ i. record { found = take (length (found i)) all; pending = left_from place number (take (length (found i)) all); bound = map bound_in (bound i) }) in (
+        (λ i. record { found = take (length (found i)) all; pending = left_from place number (take (length (found i)) all); bound = map pair_of (bound i) }) in (
           suc c.0,
           follows_on answers modules all held old.found.items was place f at (number - 1) number le old.bound.items name (next_pending all was) followed leads_there b c.0 outcome
               (subst (λ x. ClosesFrom answers (around_in modules []) c.0 x outcome) same c.1),
         )
 
-    pub refused_at : (start after : ℕ) (fault : FileFault) → IsFault (C.IsRefusedName answers modules old.found.items name) start after fault → IsFault (RefusesBy answers modules old.found.items (reached_of place (number - 1) old)) start after fault
-    refused_at start after (faults.Refused answer) h = λ accepted all begins held. refused_on answers modules all held old.found.items begins place f at (number - 1) number le old.bound.items name (next_pending all begins) answer h
-    refused_at start after faults.Device h = h
-    refused_at start after faults.OutOfMemory h = tt
+    pub refused_at : (start after : ℕ) (fault : LoadFault) → IsFault (C.IsRefusedName answers modules old.found.items name) start after fault → IsFault (RefusesBy answers modules old.found.items (reached_of place (number - 1) old)) start after fault
+    refused_at start after fault h =
+        fault_so (λ refusal h accepted all begins held. refused_on answers modules all held old.found.items begins place f at (number - 1) number le old.bound.items name (next_pending all begins) refusal h) start start after fault (omega arith) h
 
   pub nowhere : (found : List (Found A)) (at : List closing.Found → closing.Closure) → LeadsBy answers modules found at at
   nowhere found at = λ all begins held outcome c. c
@@ -246,20 +244,20 @@ module _ {A : Type 0} (answers : Answers) (modules : Modules) where
   module_followed place count first last e h = λ all begins held outcome c.
       let next : left_from place count (take (length last.found.items) all) ≡ left_from (place + 1) 0 (take (length last.found.items) all) =
       after_last answers modules all held last.found.items begins place count e ∙ ap (λ n. left_from n 0 (take (length last.found.items) all)) (sym (C.add-one place)) in
-      h all begins held outcome (subst (λ p. ClosesTo answers modules (record { found = take (length last.found.items) all; pending = p; bound = map bound_in last.bound.items }) outcome) (sym next) c)
+      h all begins held outcome (subst (λ p. ClosesTo answers modules (record { found = take (length last.found.items) all; pending = p; bound = map pair_of last.bound.items }) outcome) (sym next) c)
 
   -- all references of all modules
   pub all_followed : (most : ℕ) (first : List closing.Found → closing.Closure) (last : Closure A) → length last.found.items ≤ most → LeadsBy answers modules last.found.items first (reached_of most 0 last) → LeadsBy answers modules last.found.items first (C.closed_of last)
   all_followed most first last few h = λ all begins held outcome c.
       let many : length (take (length last.found.items) all) ≡ length last.found.items = length-take-le (length last.found.items) all (begins_long last.found.items all begins) in
       let none : left_from most 0 (take (length last.found.items) all) ≡ [] = none_left (take (length last.found.items) all) most 0 (omega (arith, many, few)) in
-      h all begins held outcome (subst (λ p. ClosesTo answers modules (record { found = take (length last.found.items) all; pending = p; bound = map bound_in last.bound.items }) outcome) (sym none) c)
+      h all begins held outcome (subst (λ p. ClosesTo answers modules (record { found = take (length last.found.items) all; pending = p; bound = map pair_of last.bound.items }) outcome) (sym none) c)
 
   -- the module asked for alone
   module _ (made : Closure A) (f : Found A) (found : made.found.items ≡ f ∷ []) (bound : made.bound.items ≡ []) where
     begun_is : (all : List closing.Found) (n : Next [] all f) → reached_of 0 0 made all ≡ closing.begun f.file.items n.c.read
     begun_is all n =
-        (λ i. record { found = take (length (found i)) all; pending = left_from 0 0 (take (length (found i)) all); bound = map bound_in (bound i) })
+        (λ i. record { found = take (length (found i)) all; pending = left_from 0 0 (take (length (found i)) all); bound = map pair_of (bound i) })
         ∙ (λ i. record { found = n.taken i; pending = left_from 0 0 (n.taken i); bound = [] })
         ∙ (λ i. record { found = record { file = n.is.0 i; read = n.c.read } ∷ []; pending = first_left n.c i; bound = [] })
 
@@ -269,17 +267,17 @@ module _ {A : Type 0} (answers : Answers) (modules : Modules) where
         let one : Begins (f ∷ []) all = subst (λ xs. Begins xs all) found (begins_part made.found.items since all (subst (λ xs. Begins xs all) kept begins)) in
         let n = next_of [] all f one in
         let whole : take (length last.found.items) all ≡ all = C.take_all (length last.found.items) all (zip_long last.found.items all zip) in
-        let c = h all begins held (Ok (record { found = all; pending = []; bound = map bound_in last.bound.items }))
-        (0, (refl, (λ i. Ok (record { found = sym whole i; pending = []; bound = map bound_in last.bound.items })))) in
-        (n.c.read, n.is.1, subst (λ k. answers.holds k n.c.read) n.is.0 (held_at answers all held 0 n.c n.at), subst (λ x. ClosesTo answers modules x (Ok (record { found = all; pending = []; bound = map bound_in last.bound.items }))) (begun_is all n) c)
+        let c = h all begins held (Ok (record { found = all; pending = []; bound = map pair_of last.bound.items }))
+        (0, (refl, (λ i. Ok (record { found = sym whole i; pending = []; bound = map pair_of last.bound.items })))) in
+        (n.c.read, n.is.1, subst (λ k. answers.holds k n.c.read) n.is.0 (held_at answers all held 0 n.c n.at), subst (λ x. ClosesTo answers modules x (Ok (record { found = all; pending = []; bound = map pair_of last.bound.items }))) (begun_is all n) c)
 
-    pub refused_of : C.IsAccepted answers f.file.items (tables_in f.module) → (start after : ℕ) (fault : FileFault) → IsFault (RefusesBy answers modules made.found.items (reached_of 0 0 made)) start after fault
-        → IsFault (λ number. C.ClosesOf answers modules f.file.items (tables_in f.module) (Err number)) start after fault
-    refused_of accepted start after (faults.Refused number) h = λ read same held.
+    pub refused_of : C.IsAccepted answers f.file.items (tables_in f.module) → (start after : ℕ) (fault : LoadFault) → IsFault (RefusesBy answers modules made.found.items (reached_of 0 0 made)) start after fault
+        → IsFault (λ refusal. C.ClosesOf answers modules f.file.items (tables_in f.module) (Err refusal)) start after fault
+    refused_of accepted start after (faults.Refused refusal) h = λ read same held.
         let one : closing.Found = record { file = f.file.items; read = read } in
         let begins : Begins made.found.items (one ∷ []) = subst (λ xs. Begins xs (one ∷ [])) (sym found) ((refl, same), tt) in
         let all : AreAccepted answers (map (found_in []) made.found.items) = subst (λ xs. AreAccepted answers (map (found_in []) xs)) (sym found) (accepted, tt) in
-        subst (λ x. ClosesTo answers modules x (Err number)) (begun_is (one ∷ []) (record { c = one; at = refl; is = (refl, same); taken = refl })) (h all (one ∷ []) begins (held, tt))
+        subst (λ x. ClosesTo answers modules x (Err refusal)) (begun_is (one ∷ []) (record { c = one; at = refl; is = (refl, same); taken = refl })) (h all (one ∷ []) begins (held, tt))
     refused_of accepted start after faults.Device h = h
     refused_of accepted start after faults.OutOfMemory h = tt
 
@@ -321,18 +319,18 @@ module _ {A : Type 0} (honest : Type 0) (files : Files) (modules : Modules) wher
       let n = length old.found.items in
       let many : length (take n all) ≡ n = length-take-le n all (begins_long old.found.items all begins) in
       let same : take n (take n all ++ cs) ≡ take n all = C.take-append-le n (take n all) cs (omega (arith, many)) ∙ C.take_all n (take n all) (omega (arith, many)) in
-      λ i. record { found = same i; pending = left_from place done (same i); bound = map bound_in old.bound.items }
+      λ i. record { found = same i; pending = left_from place done (same i); bound = map pair_of old.bound.items }
 
   pub refused_through : (place done : ℕ) (old : Closure A) (more since : List (Found A)) (middle : List closing.Found → closing.Closure) → more ≡ old.found.items ++ since
       → (AreAccepted (answers_of honest files) (map (found_in []) old.found.items) → AreAccepted (answers_of honest files) (map (found_in []) more))
-      → LeadsBy (answers_of honest files) modules more (reached_of place done old) middle → (start before after : ℕ) → start ≤ before → (fault : FileFault)
+      → LeadsBy (answers_of honest files) modules more (reached_of place done old) middle → (start before after : ℕ) → start ≤ before → (fault : LoadFault)
       → IsFault (RefusesBy (answers_of honest files) modules more middle) before after fault → IsFault (RefusesBy (answers_of honest files) modules old.found.items (reached_of place done old)) start after fault
-  refused_through place done old more since middle kept accepts leads start before after le (faults.Refused number) h = λ accepted all begins held.
+  refused_through place done old more since middle kept accepts leads start before after le (faults.Refused refusal) h = λ accepted all begins held.
       let answers = answers_of honest files in
       let acc : AreAccepted answers (map (found_in []) more) = accepts accepted in
       let ws = held_for honest files since (since_accepted answers modules old.found.items since (subst (λ xs. AreAccepted answers (map (found_in []) xs)) kept acc)) in
       let now : Begins more (take (length old.found.items) all ++ ws.0) = subst (λ xs. Begins xs (take (length old.found.items) all ++ ws.0)) (sym kept) (begins_more old.found.items since all ws.0 begins ws.1) in
       let holds : AreHeld answers (take (length old.found.items) all ++ ws.0) = held_more answers (length old.found.items) all ws.0 held ws.2 in
-      subst (λ x. ClosesTo answers modules x (Err number)) (reached_same place done old all ws.0 begins) (leads (take (length old.found.items) all ++ ws.0) now holds (Err number) (h acc (take (length old.found.items) all ++ ws.0) now holds))
+      subst (λ x. ClosesTo answers modules x (Err refusal)) (reached_same place done old all ws.0 begins) (leads (take (length old.found.items) all ++ ws.0) now holds (Err refusal) (h acc (take (length old.found.items) all ++ ws.0) now holds))
   refused_through place done old more since middle kept accepts leads start before after le faults.Device k = omega (arith, le, k)
   refused_through place done old more since middle kept accepts leads start before after le faults.OutOfMemory k = tt

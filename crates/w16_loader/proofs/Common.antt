@@ -26,21 +26,20 @@ pub use Rattle.w16_global.proofs.Common.{Global, IfNone, Lends, OnOk, cases_lt, 
 pub use Rattle.w16_global.specs.Owned.{HasNoSlot, LacksBytes}
 pub use Rattle.w16_loader.specs.Answering.{AreAccepted, AreHeld, ClosesOf, ClosesTo, IsAccepted, IsClosureBy, IsNewIn, IsRefusedFile, IsRefusedName, LeadsBy, LeadsByAnswer, LeadsTo, MakesOf, ReadsIn, RefusesBy, answers_of}
 pub use Rattle.w16_loader.specs.Reached.{Begins, IsAlike, IsFoundOf, closed_of, reached_of}
-pub use Rattle.w16_loader.specs.Binding.{AreSaid, AreTargets, AreValuesOf, IsBindFailure, IsFailure, IsForEach, IsSaid, IsStoredAs, all_bound, bound_as, values_for, with_values}
-pub use Rattle.w16_loader.specs.Closing.{Files, IsFault, IsRead, IsThere, IsUnsound, around_in, fault_of, fault_of_check, found_in, meant_in, read_in, referent_of, said}
+pub use Rattle.w16_loader.specs.Binding.{AreSaid, AreTargets, AreValuesOf, IsFailure, IsForEach, IsSaid, IsStoredAs, all_bound, bound_as, values_for, with_values}
+pub use Rattle.w16_loader.specs.Closing.{Files, IsFault, IsFileWith, IsThere, IsUnsound, around_in, fault_of_tables, fault_of_relocations, found_in, meant_in, read_in, referent_of, said}
 pub use Rattle.w16_loader.specs.Entries.{named_of}
 pub use Rattle.w16_loader.specs.Fetching.{GivesBytes, IsFetchable, IsSoundIn, IsSourceOf, IsWritten, fault_in, image_in, in_parts}
 pub use Rattle.w16_loader.specs.Filling.{AreItsFiles, AreReadAs, AreUnfilled, HasUnfilled, IsReadAs, IsUnfilled, Part, failure_at, fills_in, fills_of_part, fills_with, gives_over, slots_at}
-pub use Rattle.w16_loader.specs.Following.{FindsFew, LeadsByName, bound_in, closed_in, found_after, left_from, pending_in, references_at, references_from, references_of, referent_after}
-pub use Rattle.w16_loader.specs.Loading.{IsGivenHeld, IsOfFile, LoadsHeld, answer_in, failed_by, in_store, is_application, of_fault, refused_by}
+pub use Rattle.w16_loader.specs.Following.{FindsFew, LeadsByName, pair_of, closed_in, found_after, left_from, pending_in, references_at, references_from, references_of, referent_after}
+pub use Rattle.w16_loader.specs.Loading.{IsGivenHeld, IsOfFile, LoadsHeld, load_answer, damage_at, fault_of_failure, in_store, is_application, refused_by}
 pub use Rattle.w16_loader.specs.Naming.{AreFit, AreUnbound, GetNames, GetsName, IsClosureOf, IsFit, IsUnbound, Takes, free_handles, imports_among, unbound_by}
 pub use Rattle.w16_loader.specs.Registry.{AreCounts, IsTable, counted_of, first_named, in_world, listed, registered}
-pub use Rattle.w16_loader.specs.declared.binding.BindFault.{BindFault}
 pub use Rattle.w16_loader.specs.declared.closure.Bound.{Bound}
 pub use Rattle.w16_loader.specs.declared.closure.Followed.{Followed}
 pub use Rattle.w16_loader.specs.declared.entry.Entry.{Entry}
-pub use Rattle.w16_loader.specs.declared.found.FileFault.TheVariants.{Device, OutOfMemory}
-pub use Rattle.w16_loader.specs.declared.found.FileFault.{FileFault}
+pub use Rattle.w16_loader.specs.declared.fault.LoadFault.TheVariants.{Device, OutOfMemory}
+pub use Rattle.w16_loader.specs.declared.fault.LoadFault.{LoadFault}
 pub use Rattle.w16_loader.specs.declared.tagged.Found.{Found}
 pub use Rattle.w16_loader.specs.declared.found.Reading.{Reading}
 pub use Rattle.w16_loader.specs.declared.found.Referent.{Referent}
@@ -93,6 +92,9 @@ pub use Rattle.w16_model.specs.declared.Owned.{Owned}
 pub use Rattle.w16_model.specs.declared.TheConstants.{FIRST_SLOT, GRAIN}
 pub use Rattle.w16_ne.proofs.Common.{IsSized, drop-cons, err_from_is_err_and, filter-append, text_in}
 pub use Rattle.w16_loading.specs.File.{Saying}
+pub use Rattle.w16_loading.specs.declared.LoadRefusal.{LoadRefusal}
+pub use Rattle.w16_loading.specs.Refusals.{OrRefused, is_of_format}
+pub use Rattle.w16_loading.specs.Load.{refused_with}
 pub use Rattle.w16_ne.proofs.ReferencesFormat.{text_read}
 pub use Rattle.w16_ne.specs.Modules.{imported_place}
 pub use Rattle.w16_ne.specs.declared.fault.NeFault.{NeFault}

@@ -143,13 +143,13 @@ fewer_modules modules left handle m found removed =
 pub goes_first : (now next end : LoadingWorld) (handle : ℕ) → C.is_idle now.modules handle ≡ true → next ≡ C.without_module now handle → (gone : List ℕ) × Go next gone end → (gone : List ℕ) × Go now gone end
 goes_first now next end handle idle less later = (handle ∷ later.0, (idle, subst (λ w. Go w later.0 end) less later.1))
 
-answer_of : {X : Type 0} (found : Option X) (f : X → Named) → from_bool (is_some found) ≡ (if is_some (option_map f found) then 1 else 0)
-answer_of None f = refl
-answer_of (Some x) f = refl
+load_answer : {X : Type 0} (found : Option X) (f : X → Named) → from_bool (is_some found) ≡ (if is_some (option_map f found) then 1 else 0)
+load_answer None f = refl
+load_answer (Some x) f = refl
 
 pub still_names : {X : Type 0} (found : Option X) (f : X → Named) (modules : Modules) (handle : ℕ) (b : Bool) (answer : ℕ) → option_map f found ≡ finmap.get modules handle → b ≡ is_some found → answer ≡ from_bool b
     → answer ≡ (if finmap.contains_key modules handle then 1 else 0)
-still_names found f modules handle b answer named is answered = answered ∙ ap from_bool is ∙ answer_of found f ∙ ap (λ p. if is_some p then 1 else 0) named
+still_names found f modules handle b answer named is answered = answered ∙ ap from_bool is ∙ load_answer found f ∙ ap (λ p. if is_some p then 1 else 0) named
 
 pub ends : (old less new : LoadingWorld) (handle answer : ℕ) → less ≡ C.used_less old handle → (gone : List ℕ) × Go less gone new → answer ≡ (if finmap.contains_key new.modules handle then 1 else 0) → C.EndsUse old handle answer new
 ends old less new handle answer fewer go answered = record { gone = go.0; went = subst (λ w. Go w go.0 new) fewer go.1; answered = answered }

@@ -161,7 +161,7 @@ module _ (honest : Type 0) (world : LoadingWorld) (slot number : ℕ) (name : Li
     read_is : C.read_of ne_format world m ≡ Some (module_file file t)
     read_is =
         ap (λ (p : Option (List ℕ)). elim p as (λ _. Option ModuleFile) [ None ↦ None | Some bytes ↦ elim (ne_format.says bytes) as (λ _. Option ModuleFile) [ Ok read ↦ Some read | Err _ ↦ None ] ]) stored.1.stored
-        ∙ ap (λ (r : C.Result ModuleFile ℕ). elim r as (λ _. Option ModuleFile) [ Ok read ↦ Some read | Err _ ↦ None ]) (C.accepted file t stored.1.bytes stored.1.tables)
+        ∙ ap (λ (r : C.OrRefused ModuleFile). elim r as (λ _. Option ModuleFile) [ Ok read ↦ Some read | Err _ ↦ None ]) (C.accepted file t stored.1.bytes stored.1.tables)
 
     its : IsItsFiles m (module_file file t)
     its = subst (λ p. IsSomeAnd p (IsItsFiles m)) read_is ((is.of_files h).modules is.handle m is.segment.loaded)

@@ -10,6 +10,7 @@ use Rattle.w16_ne.specs.Reading as ne_reading
 use Rattle.w16_ne.specs.Modules as ne
 use Rattle.w16_loading.specs.Closure as closing
 use Rattle.w16_reloc.specs.declared.fault.RelocFault.TheVariants as relocs
+use Rattle.w16_loading.specs.declared.LoadRefusal.TheVariants.{BadFile}
 
 -- Names.
 
@@ -36,12 +37,12 @@ means_new modules files found name place none is =
 
 -- Files.
 
-pub is_read : (file : Option (List ℕ)) (n : ℕ) (t : ne.Tables) → C.length_of file ≡ Ok n → C.HasBytes file → C.tables_at file ≡ Ok t → C.IsRead file t
+pub is_read : (file : Option (List ℕ)) (n : ℕ) (t : ne.Tables) → C.length_of file ≡ Ok n → C.HasBytes file → C.tables_at file ≡ Ok t → C.IsFileWith file t
 is_read None n t there all e = cc
 is_read (Some bytes) n t there all e = (e, C.accepted bytes t all e)
 
 pub is_refused : (file : Option (List ℕ)) (n start before after : ℕ) (e : C.NeFault) → start ≤ before → C.length_of file ≡ Ok n → C.HasBytes file → ne_reading.Refuses file before after e (C.tables_at file)
-    → C.IsFault (λ number. said file ≡ Err number) start after (C.fault_of e)
+    → C.IsFault (λ refusal. said file ≡ Err refusal) start after (C.fault_of_tables e)
 is_refused None n start before after e le there all h = cc
 is_refused (Some bytes) n start before after faults.OutOfMemory le there all h = tt
 is_refused (Some bytes) n start before after (faults.Store stores.Device) le there all h = omega arith
@@ -80,10 +81,10 @@ module _ (bytes : List ℕ) (t : ne.Tables) where
     pub sound_next : (held : Held) → checked bytes t s ≡ Ok held → are_left (drop (place + 1) t.segments) ≡ are_left t.segments
     sound_next held is = ap (λ k. are_left (drop k t.segments)) (C.add-one place) ∙ sym (so_far (Ok held) is)
 
-    not_sound : (e : RelocFault) → checked bytes t s ≡ Err e → C.IsUnsound bytes t 11
+    not_sound : (e : RelocFault) → checked bytes t s ≡ Err e → C.IsUnsound bytes t BadFile
     not_sound e is = (refl, C.sound_law bytes t ∙ so_far (Err e) is)
 
-    pub is_unsound : (start before after : ℕ) (e : RelocFault) → start ≤ before → C.Refuses before after e (checked bytes t s) → C.IsFault (C.IsUnsound bytes t) start after (C.fault_of_check e)
+    pub is_unsound : (start before after : ℕ) (e : RelocFault) → start ≤ before → C.Refuses before after e (checked bytes t s) → C.IsFault (C.IsUnsound bytes t) start after (C.fault_of_relocations e)
     is_unsound start before after relocs.BadRecord le h = not_sound relocs.BadRecord h
     is_unsound start before after relocs.SiteOutside le h = not_sound relocs.SiteOutside h
     is_unsound start before after relocs.Overlap le h = not_sound relocs.Overlap h

@@ -3,20 +3,19 @@ use Rattle.w16_loader.proofs
 use proofs.Common as C
 use proofs.Closed as M
 use proofs.Common.{◌≡◌, ℕ, ◌<◌, ◌≤◌, inl, inr, zero, suc, Bool, true, List, [], ◌∷◌, map, fold, slice_index_or, All, Option, Some, None, IfOk, Result, Ok, Err, MatchResult, refl, sym, ap, ◌∙◌, subst, arith, AllZip, option_or, option_map, false, Heap, IsHeap, ModuleFile, IsModuleFile}
-use proofs.Common.{Fills, ne_format, There, New, Refused, Meant, Read, Given, given, LoadingWorld, Modules, handle_named, without_module, Says, LoadAnswer, around, begun, dll, Found, AreSaid, Files, IsOfFile, all_bound, closed_in, fills_with, said, around_in, IsAlike, IsFoundOf}
-use proofs.Common.{IsClosureOf, LoadsHeld, answer_in, failed_by, of_fault, AreHeld, answers_of}
+use proofs.Common.{Fills, ne_format, There, New, Refused, Meant, Read, Given, given, LoadingWorld, Modules, handle_named, without_module, Says, LoadAnswer, around, begun, dll, Found, AreSaid, Files, IsOfFile, all_bound, closed_in, fills_with, around_in, IsAlike, IsFoundOf}
+use proofs.Common.{IsClosureOf, LoadsHeld, load_answer, refused_by, AreHeld, answers_of}
 use proofs.Holdings.{bound_found, held_alike, some_held}
 use proofs.{Bindings.targets_in_all, Givings.turn_since}
-use Rattle.w16_loader.specs.{Devices.is_of_device, Devices.is_bind_device, Binding.IsBindFailure, Binding.IsUnread, declared.closure.Closure.Closure}
+use Rattle.w16_loader.specs.{Devices.is_fault_device, Binding.IsFailure, Binding.IsUnread, declared.closure.Closure.Closure}
 use Rattle.w16_loading.specs.Load.{used_again}
-use Rattle.w16_loading.specs.Answers.{Answers, ClosesFrom, GivesFrom, LoadsFrom, ReadsFile, follow, said_by, told}
+use Rattle.w16_loading.specs.Answers.{Answers, ClosesFrom, GivesFrom, LoadsFrom, ReadsFile, follow, told}
 use Rattle.w16_loading.specs.Fewest.{FillsFewest}
 use Rattle.w16_loading.proofs.{Fewest.fill_fewest, Fillings.in_turn_so, Fillings.one_heap, Named.named_heap}
 use Rattle.std.specs.FinMap as finmap
 use Rattle.w16_loading.specs.Closure as closing
 use Rattle.w16_loading.specs.declared.FetchFault.TheVariants as fetches
-use Rattle.w16_loader.specs.declared.binding.BindFault.TheVariants as binds
-use Rattle.w16_loader.specs.declared.found.FileFault.TheVariants as faults
+use Rattle.w16_loader.specs.declared.fault.LoadFault.TheVariants as faults
 
 -- Modules that are alike.
 
@@ -46,14 +45,10 @@ module _ {A : Type 0} where
 
 -- Where the store is honest, the files of modules say what is held of them.
 
-same_said : (p : Option (List ℕ)) (read : ModuleFile) → said_by ne_format.says p ≡ Ok read → said p ≡ Ok read
-same_said None read e = e
-same_said (Some bytes) read e = e
-
 module _ (honest : Type 0) (files : Files) where
   held_files : (fs : List closing.Found) → AreHeld (answers_of honest files) fs → honest → All (IsOfFile files) fs
   held_files [] held h = C.All-nil (IsOfFile files)
-  held_files (f ∷ fs) held h = C.All-cons (IsOfFile files) f fs (same_said (C.file_of files f.file) f.read (held.0.2 h), held.0.1) (held_files fs held.1 h)
+  held_files (f ∷ fs) held h = C.All-cons (IsOfFile files) f fs (held.0.2 h, held.0.1) (held_files fs held.1 h)
 
   held_is : (fs : List closing.Found) → AreHeld (answers_of honest files) fs → (f : closing.Found) → C.Member f fs → IsModuleFile f.read
   held_is [] held f m = absurd m
@@ -81,22 +76,34 @@ module _ (honest : Type 0) (files : Files) (start after : ℕ) (old : LoadingWor
 
   -- one of them isn't bound
   pub unbound_held : (modules : Modules) → ((handle : ℕ) → C.without_values (finmap.get modules handle) ≡ C.without_values (finmap.get mid.modules handle))
-      → ((handle : ℕ) → C.is_member handle handles ≡ false → finmap.get modules handle ≡ finmap.get mid.modules handle) → (before : ℕ) → start ≤ before → (fault : C.BindFault) → IsUnread (C.length handles) fault → (is_bind_device fault ≡ true → before < after)
-      → ((reads : List ModuleFile) → honest → AreSaid files mid.modules handles reads → IsBindFailure before after fault)
-      → IfOk (failed_by fault) (λ answer. LoadsHeld honest files start after old meant (answer_in answer) (fold without_module (record mid { modules = modules }) handles))
-  unbound_held modules alike same before le (binds.Failed f) unread rose exact = (
+      → ((handle : ℕ) → C.is_member handle handles ≡ false → finmap.get modules handle ≡ finmap.get mid.modules handle) → (before : ℕ) → start ≤ before → (fault : C.LoadFault) → IsUnread (C.length handles) fault → (is_fault_device fault ≡ true → before < after)
+      → ((reads : List ModuleFile) → honest → AreSaid files mid.modules handles reads → IsFailure before after fault)
+      → IfOk (refused_by fault) (λ answer. LoadsHeld honest files start after old meant (load_answer answer) (fold without_module (record mid { modules = modules }) handles))
+  unbound_held modules alike same before le (faults.Refused refusal) unread rose exact = (
     some.0,
     some.1,
     some.2,
     inr (
-      f.place,
-      f.fault,
-      (unread.0, (λ e. let lt = rose (ap is_of_device e) in omega (arith, le, lt)), λ h. (exact (map (λ (x : closing.Found). x.read) some.0) h (some_said h)).0),
-      M.refusal_is f.place f.fault,
+      unread.0,
+      fetches.Damaged,
+      (refl, (λ e. cc), λ h. absurd (exact (map (λ (x : closing.Found). x.read) some.0) h (some_said h))),
+      ap C.refused_with unread.2,
       M.taken_back old (record meant { found = some.0 }) handles mid some_unbound modules alike same is,
     ),
   )
-  unbound_held modules alike same before le binds.OutOfMemory unread rose exact = tt
+  unbound_held modules alike same before le faults.Device unread rose exact = (
+    some.0,
+    some.1,
+    some.2,
+    inr (
+      0,
+      fetches.Store,
+      (refl, (λ e. let lt = rose refl in omega (arith, le, lt)), λ h. refl),
+      refl,
+      M.taken_back old (record meant { found = some.0 }) handles mid some_unbound modules alike same is,
+    ),
+  )
+  unbound_held modules alike same before le faults.OutOfMemory unread rose exact = tt
 
   -- They are bound to targets, which are their files' where the store is honest.
   module _ (modules : Modules) (targets : List (List (List C.Target))) (are : C.AreTargets mid.modules handles targets) (b : modules ≡ all_bound (finmap.get mid.modules) mid.modules handles targets)
@@ -144,7 +151,7 @@ module _ (honest : Type 0) (files : Files) (start after : ℕ) (old : LoadingWor
     filled_held before le heap filled = (made.0, made.1, made.2, inl (inr (M.filled_load old closure handles mid u is_file modules bound (GivesFrom FillsFewest answers) heap (fewest before le None heap filled))))
 
     pub unfilled_held : (before : ℕ) → start ≤ before → (place : ℕ) (fault : C.FetchFault) (heap : Heap) → AreFilled before (Some (record { place = place; fault = fault })) heap
-        → LoadsHeld honest files start after old meant (answer_in (of_fault place fault)) (fold without_module (record mid { modules = modules; handles = record mid.handles { heap = heap } }) handles)
+        → LoadsHeld honest files start after old meant (C.refusal_of place fault) (fold without_module (record mid { modules = modules; handles = record mid.handles { heap = heap } }) handles)
     unfilled_held before le place fault heap filled =
         (made.0, made.1, made.2, inl (inr (M.unfilled_load old closure handles mid u is_file modules bound (GivesFrom FillsFewest answers) is place fault heap (fewest before le (Some (record { place = place; fault = fault })) heap filled))))
 
@@ -157,11 +164,11 @@ module _ (honest : Type 0) (files : Files) (start after : ℕ) (rest : LoadingWo
   over = told honest ne_format files start after
 
   reads_over : (found : List closing.Found) (name : List ℕ) (r : closing.Reading) → ReadsFile (answers_of honest files) (around_in modules []) found name r → ReadsFile over (around world) found name r
-  reads_over found name (Refused number) h = h
+  reads_over found name (Refused refusal) h = h
   reads_over found name (Meant referent) h = h
   reads_over found name (Read read) h = h
 
-  closes_over : (n : ℕ) (closure : closing.Closure) (outcome : Result closing.Closure ℕ) → ClosesFrom (answers_of honest files) (around_in modules []) n closure outcome → ClosesFrom over (around world) n closure outcome
+  closes_over : (n : ℕ) (closure : closing.Closure) (outcome : C.OrRefused closing.Closure) → ClosesFrom (answers_of honest files) (around_in modules []) n closure outcome → ClosesFrom over (around world) n closure outcome
   closes_over zero closure outcome h = h
   closes_over (suc n) closure outcome (place, name, left, e, more) = (place, name, left, e, by_name (λ c h. closes_over n c outcome h) (closing.meant (around_in modules []) closure.found name) more)
     where
@@ -169,19 +176,19 @@ module _ (honest : Type 0) (files : Files) (start after : ℕ) (rest : LoadingWo
       here = record closure { pending = left }
 
       ends : ((c : closing.Closure) → ClosesFrom (answers_of honest files) (around_in modules []) n c outcome → ClosesFrom over (around world) n c outcome)
-          → (r : closing.Reading) → MatchResult (follow here place name r) (λ next. ClosesFrom (answers_of honest files) (around_in modules []) n next outcome) (λ number. outcome ≡ Err number)
-          → MatchResult (follow here place name r) (λ next. ClosesFrom over (around world) n next outcome) (λ number. outcome ≡ Err number)
-      ends go (Refused answer) h = h
+          → (r : closing.Reading) → MatchResult (follow here place name r) (λ next. ClosesFrom (answers_of honest files) (around_in modules []) n next outcome) (λ refusal. outcome ≡ Err refusal)
+          → MatchResult (follow here place name r) (λ next. ClosesFrom over (around world) n next outcome) (λ refusal. outcome ≡ Err refusal)
+      ends go (Refused refusal) h = h
       ends go (Meant referent) h = go (closing.with_bound here place referent) h
       ends go (Read read) h = go (closing.with_bound (closing.with_found here (dll name) read) place (New (C.length closure.found))) h
 
       by_name : ((c : closing.Closure) → ClosesFrom (answers_of honest files) (around_in modules []) n c outcome → ClosesFrom over (around world) n c outcome)
           → (p : Option closing.Referent)
           → C.MatchOption p ((r : closing.Reading) × ReadsFile (answers_of honest files) (around_in modules []) closure.found (dll name) r
-          × MatchResult (follow here place name r) (λ next. ClosesFrom (answers_of honest files) (around_in modules []) n next outcome) (λ number. outcome ≡ Err number))
+          × MatchResult (follow here place name r) (λ next. ClosesFrom (answers_of honest files) (around_in modules []) n next outcome) (λ refusal. outcome ≡ Err refusal))
           (λ referent. ClosesFrom (answers_of honest files) (around_in modules []) n (closing.with_bound here place referent) outcome)
           → C.MatchOption p ((r : closing.Reading) × ReadsFile over (around world) closure.found (dll name) r
-          × MatchResult (follow here place name r) (λ next. ClosesFrom over (around world) n next outcome) (λ number. outcome ≡ Err number))
+          × MatchResult (follow here place name r) (λ next. ClosesFrom over (around world) n next outcome) (λ refusal. outcome ≡ Err refusal))
           (λ referent. ClosesFrom over (around world) n (closing.with_bound here place referent) outcome)
       by_name go None (r, reads, h) = (r, reads_over closure.found (dll name) r reads, ends go r h)
       by_name go (Some referent) h = go (closing.with_bound here place referent) h
@@ -198,26 +205,26 @@ module _ (honest : Type 0) (files : Files) (start after : ℕ) (rest : LoadingWo
       left,
     )
 
-    pub refused_closure : (before : ℕ) → start ≤ before → (fault : C.FileFault) → C.IsFault (λ number. C.ClosesOf (answers_of honest files) modules file t (Err number)) before after fault
-        → IfOk (C.refused_by fault) (λ answer. (b : Bool) → LoadsFrom FillsFewest over b world file (answer_in answer) world)
-    refused_closure before le (faults.Refused number) h = λ b.
+    pub refused_closure : (before : ℕ) → start ≤ before → (fault : C.LoadFault) → C.IsFault (λ refusal. C.ClosesOf (answers_of honest files) modules file t (Err refusal)) before after fault
+        → IfOk (C.refused_by fault) (λ answer. (b : Bool) → LoadsFrom FillsFewest over b world file (load_answer answer) world)
+    refused_closure before le (faults.Refused refusal) h = λ b.
         let some = some_held honest files file t accepted in
         let c = h some.0 some.1 some.2 in
-        inr (Read some.0, reads_new some.0 some.1 some.2, (c.0, Err number, closes_over c.0 (begun file some.0) (Err number) c.1, (refl, refl)))
+        inr (Read some.0, reads_new some.0 some.1 some.2, (c.0, Err refusal, closes_over c.0 (begun file some.0) (Err refusal) c.1, (refl, refl)))
     refused_closure before le faults.Device h = λ b. inl ((refl, (λ e. let lt : before < after = h in omega (arith, le, lt)), λ h. refl), refl, refl)
     refused_closure before le faults.OutOfMemory h = tt
 
     pub closed_load : {A : Type 0} (made : Closure A) → C.IsClosureBy (answers_of honest files) modules file t made → (new : LoadingWorld) (result : Result LoadAnswer C.AllocError)
-        → IfOk result (λ answer. LoadsHeld honest files start after world (closed_in [] made) (answer_in answer) new) → IfOk result (λ answer. (b : Bool) → LoadsFrom FillsFewest over b world file (answer_in answer) new)
+        → IfOk result (λ answer. LoadsHeld honest files start after world (closed_in [] made) (load_answer answer) new) → IfOk result (λ answer. (b : Bool) → LoadsFrom FillsFewest over b world file (load_answer answer) new)
     closed_load made by new (Ok answer) (found, alike, held, f) = λ b.
         let c = by found (found_alike made.found.items (closed_in [] made).found found (is_closure [] made).found alike) held in
         inr (Read c.0, reads_new c.0 c.1 c.2, (c.3.0, Ok (record (closed_in [] made) { found = found }), closes_over c.3.0 (begun file c.0) (Ok (record (closed_in [] made) { found = found })) c.3.1, f))
     closed_load made by new (Err e) h = tt
 
   -- one of whose file no module is made
-  pub refused_file : (file : List ℕ) (fault : C.FileFault) → C.IsFault (λ number. ReadsFile (answers_of honest files) (around_in modules []) [] file (Refused number)) start after fault
-      → IfOk (C.refused_by fault) (λ answer. (b : Bool) → LoadsFrom FillsFewest over b world file (answer_in answer) world)
-  refused_file file (faults.Refused number) h = λ b. inr (Refused number, reads_over [] file (Refused number) h, (refl, refl))
+  pub refused_file : (file : List ℕ) (fault : C.LoadFault) → C.IsFault (λ refusal. ReadsFile (answers_of honest files) (around_in modules []) [] file (Refused refusal)) start after fault
+      → IfOk (C.refused_by fault) (λ answer. (b : Bool) → LoadsFrom FillsFewest over b world file (load_answer answer) world)
+  refused_file file (faults.Refused refusal) h = λ b. inr (Refused refusal, reads_over [] file (Refused refusal) h, (refl, refl))
   refused_file file faults.Device h = λ b. inl ((refl, (λ e. h), λ h. refl), refl, refl)
   refused_file file faults.OutOfMemory h = tt
 

@@ -2,7 +2,7 @@
 -- bound.
 use Rattle.w16_loader.proofs
 use proofs.Common as C
-use proofs.Common.{◌≡◌, ◌<◌, ℕ, ◌==◌, Bool, true, false, cond, List, [], ◌∷◌, length, map, All, Some, None, Result, Ok, Err, MatchResult, refl, sym, ap, ◌∙◌, subst, arith, ◌≤◌, AllZip, list_all, is_some, Far, Segment, SegmentData, Tables, Target, ModuleFile, IsModuleFile, IsSegmentData}
+use proofs.Common.{◌≡◌, ◌<◌, ℕ, ◌==◌, Bool, true, false, cond, List, [], ◌∷◌, length, map, All, Some, None, Ok, Err, MatchResult, refl, sym, ap, ◌∙◌, subst, arith, AllZip, list_all, is_some, Far, Segment, SegmentData, Tables, Target, ModuleFile, IsModuleFile, IsSegmentData}
 use proofs.Common.{targets_of, file_of, ne_format, is_format, Files, Found, IsFit, IsAlike, AreAccepted, AreHeld, answers_of}
 use Rattle.std.proofs.lemmas.Bool.{eqb-true}
 use Rattle.w16_loading.specs.Answers.{HasTables, said_by}
@@ -79,35 +79,35 @@ data_same (u ∷ us) (d ∷ ds) are sound =
     λ i. one_same u d parts.0 i ∷ data_same us ds are.1 parts.1 i
 
 -- A file with these tables and targets; it is what is said, where that has them.
-abbrev file_by : Tables → List (List Target) → Result ModuleFile ℕ → ModuleFile
+abbrev file_by : Tables → List (List Target) → C.OrRefused ModuleFile → ModuleFile
 file_by t targets (Ok read) = record { tables = t; segments = data_as t.segments read.tables.segments read.segments targets }
-file_by t targets (Err number) = record { tables = t; segments = data_as t.segments [] [] targets }
+file_by t targets (Err refusal) = record { tables = t; segments = data_as t.segments [] [] targets }
 
-abbrev IsSaidFile : Result ModuleFile ℕ → Type 0
-IsSaidFile r = MatchResult r IsModuleFile (λ number. Unit {0})
+abbrev IsSaidFile : C.OrRefused ModuleFile → Type 0
+IsSaidFile r = MatchResult r IsModuleFile (λ refusal. Unit {0})
 
-abbrev Agrees : Tables → List (List Target) → Result ModuleFile ℕ → Type 0
-Agrees t targets r = HasTables r (Ok t) × MatchResult r (λ read. C.are_sound read ≡ true) (λ number. ⊥) × MatchResult r (λ read. targets ≡ map targets_of read.segments) (λ number. ⊥)
+abbrev Agrees : Tables → List (List Target) → C.OrRefused ModuleFile → Type 0
+Agrees t targets r = HasTables r (Ok t) × MatchResult r (λ read. C.are_sound read ≡ true) (λ refusal. ⊥) × MatchResult r (λ read. targets ≡ map targets_of read.segments) (λ refusal. ⊥)
 
 module _ (t : Tables) (targets : List (List Target)) (long : length targets ≡ length t.segments) where
-  file_is : (r : Result ModuleFile ℕ) → IsSaidFile r → All IsFit t.segments → IsModuleFile (file_by t targets r)
+  file_is : (r : C.OrRefused ModuleFile) → IsSaidFile r → All IsFit t.segments → IsModuleFile (file_by t targets r)
   file_is (Ok read) is fit = record { segments = is_data t.segments read.tables.segments read.segments targets long is.segments fit }
-  file_is (Err number) is fit = record { segments = is_data t.segments [] [] targets long tt fit }
+  file_is (Err refusal) is fit = record { segments = is_data t.segments [] [] targets long tt fit }
 
-  file_sound : (r : Result ModuleFile ℕ) → C.are_sound (file_by t targets r) ≡ true
+  file_sound : (r : C.OrRefused ModuleFile) → C.are_sound (file_by t targets r) ≡ true
   file_sound (Ok read) = sound_as t.segments read.tables.segments read.segments targets
-  file_sound (Err number) = sound_as t.segments [] [] targets
+  file_sound (Err refusal) = sound_as t.segments [] [] targets
 
-  file_targets : (r : Result ModuleFile ℕ) → map targets_of (file_by t targets r).segments ≡ targets
+  file_targets : (r : C.OrRefused ModuleFile) → map targets_of (file_by t targets r).segments ≡ targets
   file_targets (Ok read) = targets_as t.segments read.tables.segments read.segments targets long
-  file_targets (Err number) = targets_as t.segments [] [] targets long
+  file_targets (Err refusal) = targets_as t.segments [] [] targets long
 
-  file_tables : (r : Result ModuleFile ℕ) → (file_by t targets r).tables ≡ t
+  file_tables : (r : C.OrRefused ModuleFile) → (file_by t targets r).tables ≡ t
   file_tables (Ok read) = refl
-  file_tables (Err number) = refl
+  file_tables (Err refusal) = refl
 
-  file_same : (r : Result ModuleFile ℕ) → IsSaidFile r → Agrees t targets r → r ≡ Ok (file_by t targets r)
-  file_same (Err number) is (tables, sound, bound) = absurd tables
+  file_same : (r : C.OrRefused ModuleFile) → IsSaidFile r → Agrees t targets r → r ≡ Ok (file_by t targets r)
+  file_same (Err refusal) is (tables, sound, bound) = absurd tables
   file_same (Ok read) is (tables, sound, bound) =
       let same : data_as t.segments read.tables.segments read.segments targets ≡ read.segments =
       (λ i. data_as ((sym tables i).segments) read.tables.segments read.segments (bound i)) ∙ data_same read.tables.segments read.segments is.segments sound in
@@ -136,9 +136,9 @@ said_is : (p : C.Option (List ℕ)) → IsSaidFile (said_by ne_format.says p)
 said_is None = tt
 said_is (Some bytes) = turn _ (is_format.files bytes)
   where
-    turn : (r : Result ModuleFile ℕ) → MatchResult r IsModuleFile (λ answer. (11 ≤ answer) × (answer ≤ 14)) → IsSaidFile r
+    turn : (r : C.OrRefused ModuleFile) → MatchResult r IsModuleFile (λ refusal. C.is_of_format refusal ≡ true) → IsSaidFile r
     turn (Ok read) is = is
-    turn (Err number) is = tt
+    turn (Err refusal) is = tt
 
 first_same : {X : Type 0} (x y : X) (xs ys : List X) → x ∷ xs ≡ y ∷ ys → x ≡ y
 first_same x y xs ys e = cc
@@ -149,10 +149,10 @@ rest_same x y xs ys e = cc
 module _ (honest : Type 0) (files : Files) where
   -- A module whose records were bound to these targets, which are its file's where the store is honest.
   module _ (name : List ℕ) (t : Tables) (accepted : C.IsAccepted (answers_of honest files) name t) where
-    abbrev r : Result ModuleFile ℕ
+    abbrev r : C.OrRefused ModuleFile
     r = said_by ne_format.says (file_of files name)
 
-    pub bound_held : (targets : List (List Target)) → length targets ≡ length t.segments → (honest → MatchResult r (λ read. targets ≡ map targets_of read.segments) (λ number. ⊥))
+    pub bound_held : (targets : List (List Target)) → length targets ≡ length t.segments → (honest → MatchResult r (λ read. targets ≡ map targets_of read.segments) (λ refusal. ⊥))
         → (read : ModuleFile) × (read.tables ≡ t) × (answers_of honest files).holds name read × (map targets_of read.segments ≡ targets)
     bound_held targets long bound = (
       file_by t targets r,
@@ -167,13 +167,13 @@ module _ (honest : Type 0) (files : Files) where
         let targets = fit_to t.segments (own r) in
         let h = bound_held targets (fit_long t.segments (own r)) (λ h. own_same r (said_is (file_of files name)) (accepted.0.1 h)) in (h.0, h.1, h.2)
       where
-        own : Result ModuleFile ℕ → List (List Target)
+        own : C.OrRefused ModuleFile → List (List Target)
         own (Ok read) = map targets_of read.segments
-        own (Err number) = []
+        own (Err refusal) = []
 
-        own_same : (r : Result ModuleFile ℕ) → IsSaidFile r → HasTables r (Ok t) → MatchResult r (λ read. fit_to t.segments (own r) ≡ map targets_of read.segments) (λ number. ⊥)
+        own_same : (r : C.OrRefused ModuleFile) → IsSaidFile r → HasTables r (Ok t) → MatchResult r (λ read. fit_to t.segments (own r) ≡ map targets_of read.segments) (λ refusal. ⊥)
         own_same (Ok read) is tables = fit_same t.segments read.segments (subst (λ (u : Tables). AllZip IsSegmentData u.segments read.segments) tables is.segments)
-        own_same (Err number) is tables = tables
+        own_same (Err refusal) is tables = tables
 
   pub held_for : {A : Type 0} (fs : List (Found A)) → AreAccepted (answers_of honest files) (map (C.found_in []) fs) → (found : List closing.Found) × AllZip C.IsFoundOf fs found × AreHeld (answers_of honest files) found
   held_for [] h = ([], tt, tt)
@@ -200,7 +200,7 @@ module _ (honest : Type 0) (files : Files) where
   bound_found (f ∷ fs) (x ∷ some) (ts ∷ targets) accepted alike held long keeps =
       let said : honest → said_by ne_format.says (file_of files f.file) ≡ Ok x.read = λ h. ap (λ name. said_by ne_format.says (file_of files name)) (sym alike.0.0) ∙ held.0.2 h in
       let one = bound_held f.file f.read.tables accepted.0 ts long.0
-      (λ h. subst (λ r. MatchResult r (λ read. ts ≡ map targets_of read.segments) (λ number. ⊥)) (sym (said h)) (first_same ts (map targets_of x.read.segments) targets _ (keeps h))) in
+      (λ h. subst (λ r. MatchResult r (λ read. ts ≡ map targets_of read.segments) (λ refusal. ⊥)) (sym (said h)) (first_same ts (map targets_of x.read.segments) targets _ (keeps h))) in
       let rest = bound_found fs some targets accepted.1 alike.1 held.1 long.1 (λ h. rest_same ts (map targets_of x.read.segments) targets _ (keeps h)) in (
         record { file = f.file; read = one.0 } ∷ rest.0,
         ((refl, one.1), rest.1),

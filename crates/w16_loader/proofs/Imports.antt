@@ -1,6 +1,6 @@
 -- What the references of new modules mean, by module.
 use Rattle.w16_loader.proofs.Common as C
-use Rattle.w16_loader.proofs.Common.{◌≡◌, ◌≢◌, ℕ, ◌+◌, ◌<◌, ◌==◌, inl, inr, ◌⊎◌, cond, List, [], ◌∷◌, ◌++◌, length, get_or, set, map, take, sym, ap, ◌∙◌, subst, arith, get_or-map, length-set, handle_meant, Bound, bound_in}
+use Rattle.w16_loader.proofs.Common.{◌≡◌, ◌≢◌, ℕ, ◌+◌, ◌<◌, ◌==◌, inl, inr, ◌⊎◌, cond, List, [], ◌∷◌, ◌++◌, length, get_or, set, map, take, sym, ap, ◌∙◌, subst, arith, get_or-map, length-set, handle_meant, Bound, pair_of}
 use Rattle.w16_loading.specs.Closure.{Referent}
 
 module _ (hs : List ℕ) (p : ℕ) where
@@ -20,22 +20,22 @@ module _ (hs : List ℕ) (p : ℕ) where
 
   pub import_more : (bound : List Bound) (i : ℕ) (d : Bound) (was now : ℕ → List ℕ) (many handle : ℕ) → i < length bound → p < many → handle ≡ handle_meant hs (C.referent_of (get_or bound i d).referent)
       → ((get_or bound i d).place < many → now (get_or bound i d).place ≡ was (get_or bound i d).place ++ handle ∷ []) → ((other : ℕ) → other ≢ (get_or bound i d).place → now other ≡ was other)
-      → was p ≡ among (map bound_in (take i bound)) → now p ≡ among (map bound_in (take (i + 1) bound))
+      → was p ≡ among (map pair_of (take i bound)) → now p ≡ among (map pair_of (take (i + 1) bound))
   import_more bound i d was now many handle lt inside means here others before = turn (C.cases_eq (get_or bound i d).place p)
     where
       b : Bound
       b = get_or bound i d
 
-      more : map bound_in (take (i + 1) bound) ≡ map bound_in (take i bound) ++ bound_in b ∷ []
-      more = ap (map bound_in) (C.take_more bound i d lt) ∙ C.map-append bound_in (take i bound) (b ∷ [])
+      more : map pair_of (take (i + 1) bound) ≡ map pair_of (take i bound) ++ pair_of b ∷ []
+      more = ap (map pair_of) (C.take_more bound i d lt) ∙ C.map-append pair_of (take i bound) (b ∷ [])
 
-      turn : (b.place ≡ p) ⊎ (b.place ≢ p) → now p ≡ among (map bound_in (take (i + 1) bound))
+      turn : (b.place ≡ p) ⊎ (b.place ≢ p) → now p ≡ among (map pair_of (take (i + 1) bound))
       turn (inl e) =
           subst (λ q. now q ≡ was q ++ handle ∷ []) e (here (omega (arith, e, inside))) ∙ ap (λ h. was p ++ h ∷ []) means
-          ∙ (λ j. before j ++ sym (one_is (bound_in b) e) j) ∙ sym (among_both (map bound_in (take i bound)) (bound_in b ∷ [])) ∙ ap among (sym more)
+          ∙ (λ j. before j ++ sym (one_is (pair_of b) e) j) ∙ sym (among_both (map pair_of (take i bound)) (pair_of b ∷ [])) ∙ ap among (sym more)
       turn (inr n) =
-          others p (λ e. n (sym e)) ∙ before ∙ sym (C.append-nil (among (map bound_in (take i bound)))) ∙ (λ j. among (map bound_in (take i bound)) ++ sym (none_is (bound_in b) n) j)
-          ∙ sym (among_both (map bound_in (take i bound)) (bound_in b ∷ [])) ∙ ap among (sym more)
+          others p (λ e. n (sym e)) ∙ before ∙ sym (C.append-nil (among (map pair_of (take i bound)))) ∙ (λ j. among (map pair_of (take i bound)) ++ sym (none_is (pair_of b) n) j)
+          ∙ sym (among_both (map pair_of (take i bound)) (pair_of b ∷ [])) ∙ ap among (sym more)
 
 -- Lists in a table of vectors, of which one gets a number more.
 module _ {V : Type 0} (items : V → List ℕ) (vs : List V) (place : ℕ) (now : V) where

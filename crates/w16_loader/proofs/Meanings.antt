@@ -53,6 +53,6 @@ module _ {A : Type 0} (modules : C.Modules) (found : List (Found A)) where
     is_there (makes.Meant (refers.New place)) h = place_there h.0.name place (handle_named modules h.0.name) (place_of h.0.name) refl h.2
     is_there (makes.Read tables) h = tt
 
-    pub all_there : (IsRefused : C.FileFault → Type 0) (r : C.Result (C.Reading A) C.FileFault) → C.MatchResult r (C.MakesOf answers modules found name) IsRefused → IfOk r (C.IsThere modules found)
+    pub all_there : (IsRefused : C.LoadFault → Type 0) (r : C.Result (C.Reading A) C.LoadFault) → C.MatchResult r (C.MakesOf answers modules found name) IsRefused → IfOk r (C.IsThere modules found)
     all_there IsRefused (Ok made) h = is_there made h
     all_there IsRefused (Err fault) h = tt

@@ -8,11 +8,9 @@ use Rattle.w16_ne.specs.{declared.segment_table.Segment.Segment, Reading.Refuses
 use Rattle.w16_reloc.specs.Records.{name_in, text_of}
 use Rattle.w16_reloc.specs.declared.record.Record.TheVariants.{Stored, Added, System}
 use Rattle.w16_format.specs.Data.{record_target, target_by}
-use Rattle.w16_loader.specs.{declared.found.FileFault.TheVariants.Refused, Closing.IsFault, Closing.fault_of_check}
+use Rattle.w16_loader.specs.{declared.fault.LoadFault.TheVariants.Refused, Closing.IsFault, Closing.fault_of_relocations}
 use Rattle.w16_store.specs.declared.store.StoreFault.TheVariants as stores
-use Rattle.w16_ne.specs.declared.fault.NeFault.TheVariants as ne_faults
 use Rattle.w16_reloc.specs.declared.fault.RelocFault.TheVariants as relocs
-use Rattle.w16_reloc.specs.declared.value.Far as words
 use Rattle.w16_reloc.specs.declared.record.Target as pointing
 use Rattle.w16_reloc.specs.declared.record.Target.TheVariants as points
 use Rattle.w16_reloc.specs.Segments as segments
@@ -20,14 +18,14 @@ use Rattle.w16_loading.specs.File as loading
 
 -- Faults.
 
--- A fault in a call is one since any time before it.
-pub fault_since : (IsRefused : ℕ → Type 0) (before mid after : ℕ) (fault : C.FileFault) → before ≤ mid → IsFault IsRefused mid after fault → IsFault IsRefused before after fault
-fault_since IsRefused before mid after (Refused number) le is = is
-fault_since IsRefused before mid after C.Device le more = omega (arith, le, more)
-fault_since IsRefused before mid after C.OutOfMemory le none = tt
+-- A fault in a call is one since any time before it, and for what its refusal says.
+pub fault_so : {P Q : C.LoadRefusal → Type 0} → ((refusal : C.LoadRefusal) → P refusal → Q refusal) → (before mid after : ℕ) (fault : C.LoadFault) → before ≤ mid → IsFault P mid after fault → IsFault Q before after fault
+fault_so go before mid after (Refused refusal) le is = go refusal is
+fault_so go before mid after C.Device le more = omega (arith, le, more)
+fault_so go before mid after C.OutOfMemory le none = tt
 
 -- a segment that passes its check isn't refused but by the device
-pub check_failed : (before after : ℕ) (held : Held) (e : RelocFault) → segments.Refuses before after e (Ok held) → C.IsFailure before after (fault_of_check e)
+pub check_failed : (before after : ℕ) (held : Held) (e : RelocFault) → segments.Refuses before after e (Ok held) → C.IsFailure before after (fault_of_relocations e)
 check_failed before after held relocs.BadRecord h = cc
 check_failed before after held relocs.SiteOutside h = cc
 check_failed before after held relocs.Overlap h = cc
@@ -116,7 +114,7 @@ module _ (files : Files) (m : Module) (read : ModuleFile) (is : IsSaid files m r
     pub targets_are : (held : Held) → checked is.file t found.0 ≡ Ok held → C.targets_of d ≡ map (C.target_of is.file t) held.records
     targets_are held e = ap C.targets_of found.2 ∙ ap (λ r. C.unwrap_or (C.targets_in is.file t r) []) e
 
-    pub segment_refused : (before after : ℕ) (e : RelocFault) → segments.Refuses before after e (checked is.file t found.0) → C.IsFailure before after (fault_of_check e)
+    pub segment_refused : (before after : ℕ) (e : RelocFault) → segments.Refuses before after e (checked is.file t found.0) → C.IsFailure before after (fault_of_relocations e)
     segment_refused before after e h = check_failed before after passed.0 e (subst (λ r. segments.Refuses before after e r) passed.1 h)
 
 -- as many segments as the module has

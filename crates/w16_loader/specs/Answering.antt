@@ -1,11 +1,12 @@
 -- What a load makes of files, and finds, by what its store answered.
 use Rattle.w16_loader.specs
-use Rattle.std.specs.Prelude.{◌≡◌, ◌<◌, ◌⊎◌, ℕ, true, List, [], ◌∷◌, map, length, All, None, Result, Ok, Err}
+use Rattle.std.specs.Prelude.{◌≡◌, ◌<◌, ◌⊎◌, ℕ, true, List, [], ◌∷◌, map, length, All, None, Ok, Err}
 use Rattle.std.specs.List.{AllZip}
-use Rattle.w16_loading.specs.{Answers.Answers, Answers.ClosesFrom, Answers.ReadsFile, Answers.told, Closure.dll, Closure.Reading.Refused, Closure.Reading.Meant, File.ModuleFile, File.Tables, Modules.Modules, Modules.free_modules}
+use Rattle.w16_loading.specs.{Answers.Answers, Answers.ClosesFrom, Answers.ReadsFile, Answers.told, Closure.dll, Closure.Reading.Refused, Closure.Reading.Meant, File.ModuleFile, File.Tables, Refusals.OrRefused, Refusals.by_reference, declared.LoadRefusal.LoadRefusal, Modules.Modules}
+use Rattle.w16_loading.specs.Modules.{free_modules}
 use Rattle.w16_format.specs.{Ne.ne_format, Tables.tables_in}
 use specs.Closing.{Files, around_in, found_in, meant_in, referent_of}
-use specs.Following.{LeadsByName, bound_in, number_of_reference}
+use specs.Following.{LeadsByName, pair_of}
 use specs.{declared.tagged.Found.Found, declared.found.Reading.Reading, declared.closure.Closure.Closure, declared.closure.Followed.Followed, Reached.Begins, Reached.IsFoundOf, Naming.IsFit}
 use Rattle.w16_loading.specs.Closure as closing
 use Rattle.w16_ne.specs.Modules as ne
@@ -31,7 +32,7 @@ AreHeld answers [] = Unit {0}
 AreHeld answers (f ∷ fs) = answers.holds f.file f.read × AreHeld answers fs
 
 -- it closes to this in some number of steps
-abbrev pub ClosesTo : Answers → Modules → closing.Closure → Result closing.Closure ℕ → Type 0
+abbrev pub ClosesTo : Answers → Modules → closing.Closure → OrRefused closing.Closure → Type 0
 ClosesTo answers modules closure outcome = (n : ℕ) × ClosesFrom answers (around_in modules []) n closure outcome
 
 module _ {A : Type 0} (answers : Answers) (modules : Modules) (found : List (Found A)) where
@@ -55,27 +56,27 @@ module _ {A : Type 0} (answers : Answers) (modules : Modules) (found : List (Fou
   abbrev pub LeadsTo : List ℕ → Followed A → Type 0
   LeadsTo name followed = LeadsByName modules found name followed ⊎ ((meant_in modules found name ≡ None) × LeadsByAnswer (dll name) followed)
 
-  -- the number by which the file of a reference refuses a load, and so the reference
-  abbrev pub IsRefusedFile : List ℕ → ℕ → Type 0
-  IsRefusedFile file number = (answer : ℕ) × ReadsIn file (Refused answer) × (number ≡ number_of_reference answer)
+  -- why the file of a reference refuses a load, and so the reference
+  abbrev pub IsRefusedFile : List ℕ → LoadRefusal → Type 0
+  IsRefusedFile file refusal = (why : LoadRefusal) × ReadsIn file (Refused why) × (refusal ≡ by_reference why)
 
-  abbrev pub IsRefusedName : List ℕ → ℕ → Type 0
-  IsRefusedName name number = (meant_in modules found name ≡ None) × IsRefusedFile (dll name) number
+  abbrev pub IsRefusedName : List ℕ → LoadRefusal → Type 0
+  IsRefusedName name refusal = (meant_in modules found name ≡ None) × IsRefusedFile (dll name) refusal
 
   -- One closure comes of another, whatever else the files of the modules that were found hold: what it closes to, the other does.
   abbrev pub LeadsBy : (before after : List closing.Found → closing.Closure) → Type 0
   LeadsBy before after =
-      (all : List closing.Found) → Begins found all → AreHeld answers all → (outcome : Result closing.Closure ℕ) → ClosesTo answers modules (after all) outcome → ClosesTo answers modules (before all) outcome
+      (all : List closing.Found) → Begins found all → AreHeld answers all → (outcome : OrRefused closing.Closure) → ClosesTo answers modules (after all) outcome → ClosesTo answers modules (before all) outcome
 
-  -- and so it is refused with this number
-  abbrev pub RefusesBy : (before : List closing.Found → closing.Closure) → ℕ → Type 0
-  RefusesBy before number = AreAccepted answers (map (found_in []) found) → (all : List closing.Found) → Begins found all → AreHeld answers all → ClosesTo answers modules (before all) (Err number)
+  -- and so it is refused for this
+  abbrev pub RefusesBy : (before : List closing.Found → closing.Closure) → LoadRefusal → Type 0
+  RefusesBy before refusal = AreAccepted answers (map (found_in []) found) → (all : List closing.Found) → Begins found all → AreHeld answers all → ClosesTo answers modules (before all) (Err refusal)
 
 -- the module of a file that is asked for alone comes to this
-abbrev pub ClosesOf : Answers → Modules → List ℕ → Tables → Result closing.Closure ℕ → Type 0
+abbrev pub ClosesOf : Answers → Modules → List ℕ → Tables → OrRefused closing.Closure → Type 0
 ClosesOf answers modules file t outcome = (read : ModuleFile) → read.tables ≡ t → answers.holds file read → ClosesTo answers modules (closing.begun file read) outcome
 
 -- What the code has found and bound is a closure of a file, whatever its modules hold beside their tables.
 abbrev pub IsClosureBy : {A : Type 0} → Answers → Modules → List ℕ → Tables → Closure A → Type 0
 IsClosureBy answers modules file t c = (found : List closing.Found) → AllZip IsFoundOf c.found.items found → AreHeld answers found
-    → (read : ModuleFile) × (read.tables ≡ t) × answers.holds file read × ClosesTo answers modules (closing.begun file read) (Ok (record { found = found; pending = []; bound = map bound_in c.bound.items }))
+    → (read : ModuleFile) × (read.tables ≡ t) × answers.holds file read × ClosesTo answers modules (closing.begun file read) (Ok (record { found = found; pending = []; bound = map pair_of c.bound.items }))

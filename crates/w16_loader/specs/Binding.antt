@@ -4,13 +4,13 @@ use Rattle.std.specs.List.{AllZip}
 use Rattle.w16_store.specs.Files.{file_of}
 use Rattle.w16_ne.specs.Modules.{tables_at}
 use Rattle.w16_loading.specs.Modules.{Lookup, Module, Modules, module_at, value_of}
-use Rattle.w16_loading.specs.{declared.FetchFault.TheVariants.Store, Closure.are_sound, File.Far, File.ModuleFile, File.Target, Fill.is_of_read, Modules.Named.Loaded}
+use Rattle.w16_loading.specs.{Closure.are_sound, File.Far, File.ModuleFile, File.Target, Modules.Named.Loaded}
 use Rattle.w16_format.specs.{Data.far_of, Ne.ne_format, Tables.tables_in}
-use Rattle.w16_loader.specs.{Closing.Files, Closing.IsFault, declared.found.FileFault.FileFault, declared.binding.BindFault.BindFault}
+use Rattle.w16_loader.specs.{Closing.Files, Closing.IsFault, declared.fault.LoadFault.LoadFault, Loading.damage_at}
 use Rattle.std.specs.FinMap as finmap
 use Rattle.w16_ne.specs.Modules as ne
 use Rattle.w16_reloc.specs.declared.value.Far as words
-use Rattle.w16_loader.specs.declared.binding.BindFault.TheVariants as binds
+use Rattle.w16_loader.specs.declared.fault.LoadFault.TheVariants as faults
 
 -- Values.
 
@@ -65,15 +65,11 @@ AreSaid files modules handles reads = AllZip (λ handle read. IsSomeAnd (module_
 
 -- Faults.
 
--- Over files that still say what they said no number refuses a module: the device failed, or there was no memory.
-abbrev pub IsFailure : ℕ → ℕ → FileFault → Type 0
-IsFailure = IsFault (λ number. ⊥)
+-- Over files that still say what they said no module is refused: the device failed, or there was no memory.
+abbrev pub IsFailure : ℕ → ℕ → LoadFault → Type 0
+IsFailure = IsFault (λ refusal. ⊥)
 
-abbrev pub IsBindFailure : ℕ → ℕ → BindFault → Type 0
-IsBindFailure before after (binds.Failed f) = (f.fault ≡ Store) × (before < after)
-IsBindFailure before after binds.OutOfMemory = Unit {0}
-
--- over any store, one of that many modules can't be read
-abbrev pub IsUnread : ℕ → BindFault → Type 0
-IsUnread many (binds.Failed f) = (is_of_read f.fault ≡ true) × (f.place < many)
-IsUnread many binds.OutOfMemory = Unit {0}
+-- over any store, the file of one of that many modules is refused
+abbrev pub IsUnread : ℕ → LoadFault → Type 0
+IsUnread many (faults.Refused refusal) = (place : ℕ) × (place < many) × (refusal ≡ damage_at place)
+IsUnread many other = Unit {0}

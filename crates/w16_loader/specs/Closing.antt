@@ -1,12 +1,14 @@
 -- What a load has found, as the code keeps it, and what it makes of a name and of a file.
-use Rattle.std.specs.Prelude.{◌≡◌, ◌<◌, ℕ, List, [], length, map, false, Option, Some, None, IsSomeAnd, unwrap_or, Result, Ok, Err}
+use Rattle.std.specs.Prelude.{◌≡◌, ◌<◌, ℕ, List, [], length, map, false, Option, Some, IsSomeAnd, unwrap_or, Ok}
 use Rattle.w16_store.specs.{Files.file_of, declared.store.StoreFault.StoreFault}
 use Rattle.w16_ne.specs.{declared.fault.NeFault.NeFault, Modules.tables_at}
 use Rattle.w16_reloc.specs.declared.fault.RelocFault.{RelocFault}
-use Rattle.w16_loading.specs.{File.ModuleFile, Modules.Modules, Modules.Named, Modules.handle_named, Modules.free_modules, Closure.Around, Closure.are_sound, Closure.Referent.There, Closure.Referent.New, Closure.Reading.Meant, Closure.Reading.Read}
-use Rattle.w16_format.specs.Ne.{ne_format, module_file, number_of}
-use Rattle.w16_loader.specs.declared.found.FileFault.TheVariants.{Refused, Device, OutOfMemory}
-use Rattle.w16_loader.specs.{declared.tagged.Found.Found, declared.found.Referent.Referent, declared.found.Reading.Reading, declared.found.FileFault.FileFault}
+use Rattle.w16_loading.specs.{Answers.said_by, File.ModuleFile, Modules.Modules, Modules.Named, Modules.handle_named, Modules.free_modules, Closure.Around, Closure.are_sound, Closure.Referent.There, Closure.Referent.New, Closure.Reading.Meant, Closure.Reading.Read, Refusals.OrRefused}
+use Rattle.w16_loading.specs.declared.LoadRefusal.{LoadRefusal}
+use Rattle.w16_format.specs.Ne.{ne_format, module_file, refusal_by_format}
+use Rattle.w16_loading.specs.declared.LoadRefusal.TheVariants.{BadFile, NoFile}
+use Rattle.w16_loader.specs.declared.fault.LoadFault.TheVariants.{Refused, Device, OutOfMemory}
+use Rattle.w16_loader.specs.{declared.tagged.Found.Found, declared.found.Referent.Referent, declared.found.Reading.Reading, declared.fault.LoadFault.LoadFault}
 use Rattle.std.specs.FinMap as finmap
 use Rattle.w16_store.specs.declared.store.StoreFault.TheVariants as stores
 use Rattle.w16_ne.specs.declared.fault.NeFault.TheVariants as faults
@@ -35,39 +37,38 @@ module _ {A : Type 0} where
   abbrev pub found_in : Files → Found A → closing.Found
   found_in files f = record { file = f.file.items; read = read_in files f.file.items f.module }
 
--- What a file says, or the number that refuses it; 2 where there is no such file.
-abbrev pub said : Option (List ℕ) → Result ModuleFile ℕ
-said None = Err 2
-said (Some bytes) = ne_format.says bytes
+-- what a file says, or why it is refused
+abbrev pub said : Option (List ℕ) → OrRefused ModuleFile
+said = said_by ne_format.says
 
 -- the tables are those of a file that is there and is accepted
-abbrev pub IsRead : Option (List ℕ) → ne.Tables → Type 0
-IsRead file tables = IsSomeAnd file (λ bytes. (tables_at (Some bytes) ≡ Ok tables) × (ne_format.says bytes ≡ Ok (module_file bytes tables)))
+abbrev pub IsFileWith : Option (List ℕ) → ne.Tables → Type 0
+IsFileWith file tables = IsSomeAnd file (λ bytes. (tables_at (Some bytes) ≡ Ok tables) × (ne_format.says bytes ≡ Ok (module_file bytes tables)))
 
--- Why there is none: this number refuses it; the device failed, and then its count of failures rose; there was no memory, which says nothing.
-abbrev pub IsFault : (ℕ → Type 0) → ℕ → ℕ → FileFault → Type 0
-IsFault IsRefused before after (Refused number) = IsRefused number
+-- Why there is none: it is refused for this; the device failed, and then its count of failures rose; there was no memory, which says nothing.
+abbrev pub IsFault : (LoadRefusal → Type 0) → ℕ → ℕ → LoadFault → Type 0
+IsFault IsRefused before after (Refused refusal) = IsRefused refusal
 IsFault IsRefused before after Device = before < after
 IsFault IsRefused before after OutOfMemory = Unit {0}
 
 -- what a fault of a file's length is to a load, of a file that is there, and of its relocations
-abbrev pub fault_of_length : StoreFault → FileFault
-fault_of_length stores.Missing = Refused 2
+abbrev pub fault_of_length : StoreFault → LoadFault
+fault_of_length stores.Missing = Refused NoFile
 fault_of_length stores.Device = Device
-fault_of_length stores.Short = Refused 11
+fault_of_length stores.Short = Refused BadFile
 
-abbrev pub fault_of : NeFault → FileFault
-fault_of faults.OutOfMemory = OutOfMemory
-fault_of (faults.Store stores.Device) = Device
-fault_of e = Refused (number_of e)
+abbrev pub fault_of_tables : NeFault → LoadFault
+fault_of_tables faults.OutOfMemory = OutOfMemory
+fault_of_tables (faults.Store stores.Device) = Device
+fault_of_tables e = Refused (refusal_by_format e)
 
-abbrev pub fault_of_check : RelocFault → FileFault
-fault_of_check (relocs.Store stores.Device) = Device
-fault_of_check e = Refused 11
+abbrev pub fault_of_relocations : RelocFault → LoadFault
+fault_of_relocations (relocs.Store stores.Device) = Device
+fault_of_relocations e = Refused BadFile
 
--- a module whose relocations aren't sound is refused with 11
-abbrev pub IsUnsound : List ℕ → ne.Tables → ℕ → Type 0
-IsUnsound bytes tables number = (number ≡ 11) × (are_sound (module_file bytes tables) ≡ false)
+-- a module whose relocations aren't sound is a bad file
+abbrev pub IsUnsound : List ℕ → ne.Tables → LoadRefusal → Type 0
+IsUnsound bytes tables refusal = (refusal ≡ BadFile) × (are_sound (module_file bytes tables) ≡ false)
 
 module _ {A : Type 0} where
   -- what a name means to a load of these modules that has found others

@@ -12,9 +12,9 @@ use Rattle.w16_reloc.specs.declared.fault.RelocFault.TheVariants as relocs
 use Rattle.w16_reloc.specs.declared.value.Far as words
 
 -- why a fetch fails whose segment isn't relocated: the store's device failed, or the file isn't what it was
-abbrev pub fault_of : RelocFault → FetchFault
-fault_of (relocs.Store stores.Device) = Store
-fault_of other = Damaged
+abbrev pub fetch_fault : RelocFault → FetchFault
+fetch_fault (relocs.Store stores.Device) = Store
+fetch_fault other = Damaged
 
 -- what a fetch answers, as loading has it
 abbrev pub fault_in : {A : Type 0} → Result A FetchFault → Option FetchFault

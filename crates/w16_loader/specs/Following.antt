@@ -1,21 +1,17 @@
 -- How a load follows the references of the modules that it finds, as the code keeps it.
 use Rattle.w16_loader.specs
-use Rattle.std.specs.Prelude.{◌≡◌, ◌≤◌, ◌==◌, if◌then◌else◌, ℕ, suc, List, [], ◌∷◌, ◌++◌, map, drop, length, slice_get, None, Some}
-use Rattle.w16_loading.specs.{Modules.Modules, Modules.free_modules, Closure.Referent.New, Closure.Reading.Meant}
-use specs.declared.found.FileFault.TheVariants.{Refused, Device, OutOfMemory}
+use Rattle.std.specs.Prelude.{◌≡◌, ◌≤◌, ℕ, suc, List, [], ◌∷◌, ◌++◌, map, drop, length, slice_get, None, Some}
+use Rattle.w16_loading.specs.{Refusals.by_reference, Modules.Modules, Modules.free_modules, Closure.Referent.New, Closure.Reading.Meant}
+use specs.declared.fault.LoadFault.TheVariants.{Refused, Device, OutOfMemory}
 use specs.Closing.{Files, referent_of, found_in, meant_in}
-use specs.{declared.tagged.Found.Found, declared.found.FileFault.FileFault, declared.closure.Bound.Bound, declared.closure.Closure.Closure, declared.closure.Followed.Followed}
+use specs.{declared.tagged.Found.Found, declared.fault.LoadFault.LoadFault, declared.closure.Bound.Bound, declared.closure.Closure.Closure, declared.closure.Followed.Followed}
 use Rattle.w16_loading.specs.Closure as closing
 use Rattle.w16_loader.specs.declared.found.Referent as kept
 use Rattle.w16_loader.specs.declared.found.Referent.TheVariants as refers
 use Rattle.w16_loader.specs.declared.closure.Followed.TheVariants as leads
 
--- a file that a reference leads to and that is refused gives 20, want of a handle 0
-abbrev pub number_of_reference : ℕ → ℕ
-number_of_reference answer = if answer == 0 then 0 else 20
-
-abbrev pub fault_of_reference : FileFault → FileFault
-fault_of_reference (Refused answer) = Refused (number_of_reference answer)
+abbrev pub fault_of_reference : LoadFault → LoadFault
+fault_of_reference (Refused refusal) = Refused (by_reference refusal)
 fault_of_reference Device = Device
 fault_of_reference OutOfMemory = OutOfMemory
 
@@ -32,13 +28,13 @@ references_from place (f ∷ fs) = references_of place f ++ references_from (suc
 abbrev pub left_from : ℕ → ℕ → List closing.Found → List (ℕ × List ℕ)
 left_from place done found = drop done (references_from place (drop place found))
 
-abbrev pub bound_in : Bound → ℕ × closing.Referent
-bound_in b = (b.place, referent_of b.referent)
+abbrev pub pair_of : Bound → ℕ × closing.Referent
+pair_of b = (b.place, referent_of b.referent)
 
 module _ {A : Type 0} where
   -- what the code has found and bound, with these references pending
   abbrev pub pending_in : Files → List (ℕ × List ℕ) → Closure A → closing.Closure
-  pending_in files pending c = record { found = map (found_in files) c.found.items; pending = pending; bound = map bound_in c.bound.items }
+  pending_in files pending c = record { found = map (found_in files) c.found.items; pending = pending; bound = map pair_of c.bound.items }
 
   -- with none pending
   abbrev pub closed_in : Files → Closure A → closing.Closure

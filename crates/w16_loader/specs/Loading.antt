@@ -5,33 +5,34 @@ use Rattle.w16_store.specs.Files.{file_of}
 use Rattle.w16_model.specs.Handles.{Handles}
 use Rattle.w16_format.specs.Ne.{ne_format}
 use Rattle.w16_loading.specs.{Answers.GivesFrom, Answers.MayFail, Answers.told, Fewest.FillsFewest}
-use Rattle.w16_loading.specs.{Closure.are_sound, Free.without_module, Load.Answer, Load.LoadsNew, Load.refusal_of, Load.Answer.Says, Load.Answer.StoreFails, Modules.LoadingWorld, Modules.Module, Modules.Modules, declared.FetchFault.FetchFault}
-use Rattle.w16_loader.specs.declared.found.FileFault.TheVariants.{Refused, Device, OutOfMemory}
-use Rattle.w16_loader.specs.{declared.loading.LoadAnswer.LoadAnswer, declared.found.FileFault.FileFault, declared.binding.BindFault.BindFault, Closing.Files, Closing.said, Reached.IsAlike, Answering.AreHeld, Answering.answers_of, Fetching.in_parts, Registry.in_world}
+use Rattle.w16_loading.specs.{Closure.are_sound, Free.without_module, Load.Answer, Load.LoadsNew, Load.refusal_of, Load.Answer.Says, Load.Answer.StoreFails, Modules.LoadingWorld, Modules.Module, Modules.Modules, Refusals.refusal_number, declared.FetchFault.FetchFault}
+use Rattle.w16_loading.specs.declared.LoadRefusal.{LoadRefusal}
+use Rattle.w16_loading.specs.declared.LoadRefusal.TheVariants.{BadFile, BadReference, NoRoom}
+use Rattle.w16_loader.specs.declared.fault.LoadFault.TheVariants.{Refused, Device, OutOfMemory}
+use Rattle.w16_loader.specs.{declared.loading.LoadAnswer.LoadAnswer, declared.fault.LoadFault.LoadFault, Closing.Files, Closing.said, Reached.IsAlike, Answering.AreHeld, Answering.answers_of, Fetching.in_parts, Registry.in_world}
 use Rattle.w16_loading.specs.Closure as closing
 use Rattle.w16_loader.specs.declared.loading.LoadAnswer.TheVariants as answers
-use Rattle.w16_loader.specs.declared.binding.BindFault.TheVariants as binds
 use Rattle.w16_loading.specs.declared.FetchFault.TheVariants as fetches
 
 -- what the code answers, as loading has it
-abbrev pub answer_in : LoadAnswer → Answer
-answer_in (answers.Says word) = Says word
-answer_in answers.StoreFails = StoreFails
+abbrev pub load_answer : LoadAnswer → Answer
+load_answer (answers.Says word) = Says word
+load_answer answers.StoreFails = StoreFails
 
--- what it answers where no module is made of a file, and where a module isn't bound or filled; an error is that there was no memory
-abbrev pub refused_by : FileFault → Result LoadAnswer AllocError
-refused_by (Refused number) = Ok (answers.Says number)
+-- what it answers where a load fails; an error is that there was no memory
+abbrev pub refused_by : LoadFault → Result LoadAnswer AllocError
+refused_by (Refused refusal) = Ok (answers.Says (refusal_number refusal))
 refused_by Device = Ok answers.StoreFails
 refused_by OutOfMemory = Err alloc_error
 
-abbrev pub of_fault : ℕ → FetchFault → LoadAnswer
-of_fault place fetches.Store = answers.StoreFails
-of_fault place fetches.NoRoom = answers.Says 0
-of_fault place fetches.Damaged = answers.Says (if place == 0 then 11 else 20)
+-- why it fails where the file of the new module at a place reads otherwise than it did, and where an object of it gets no bytes
+abbrev pub damage_at : ℕ → LoadRefusal
+damage_at place = if place == 0 then BadFile else BadReference
 
-abbrev pub failed_by : BindFault → Result LoadAnswer AllocError
-failed_by (binds.Failed failure) = Ok (of_fault failure.place failure.fault)
-failed_by binds.OutOfMemory = Err alloc_error
+abbrev pub fault_of_failure : ℕ → FetchFault → LoadFault
+fault_of_failure place fetches.Store = Device
+fault_of_failure place fetches.NoRoom = Refused NoRoom
+fault_of_failure place fetches.Damaged = Refused (damage_at place)
 
 -- an application, and no library, is there
 abbrev pub is_application : Option Module → Bool
@@ -56,6 +57,6 @@ LoadsHeld honest files before after old closure answer new =
 
 -- New modules that have names were bound and filled, and their load is done; or that failed, and then it is once they are gone again. Want of memory
 -- says nothing.
-abbrev pub IsGivenHeld : (honest : Type 0) → Files → (before after : ℕ) → LoadingWorld → closing.Closure → List ℕ → Result (Unit {0}) BindFault → LoadingWorld → Type 0
+abbrev pub IsGivenHeld : (honest : Type 0) → Files → (before after : ℕ) → LoadingWorld → closing.Closure → List ℕ → Result (Unit {0}) LoadFault → LoadingWorld → Type 0
 IsGivenHeld honest files before after old closure handles (Ok done) new = LoadsHeld honest files before after old closure (Says (slice_index_or handles 0 0)) new
-IsGivenHeld honest files before after old closure handles (Err fault) new = IfOk (failed_by fault) (λ answer. LoadsHeld honest files before after old closure (answer_in answer) (fold without_module new handles))
+IsGivenHeld honest files before after old closure handles (Err fault) new = IfOk (refused_by fault) (λ answer. LoadsHeld honest files before after old closure (load_answer answer) (fold without_module new handles))

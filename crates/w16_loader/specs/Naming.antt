@@ -5,14 +5,14 @@ use Rattle.w16_model.specs.{declared.TheConstants.GRAIN, Heap.IsMultiple, Handle
 use Rattle.w16_loading.specs.declared.TheConstants.{FIRST_MODULE, MOST_MODULES, LARGEST_OWNED}
 use Rattle.w16_loading.specs.Naming.{Choice, IsChoice, Given, given, given_from, imports_at, unbound, with_modules, with_segment, segments_of}
 use Rattle.w16_loading.specs.{File.Segment, Modules.LoadingWorld, Modules.Module, Modules.Modules, Modules.Named.Loaded}
-use Rattle.w16_loader.specs.{declared.closure.Closure.Closure, Reached.IsAlike, Reached.IsFoundOf, Following.bound_in}
+use Rattle.w16_loader.specs.{declared.closure.Closure.Closure, Reached.IsAlike, Reached.IsFoundOf, Following.pair_of}
 use Rattle.std.specs.FinMap as finmap
 use Rattle.w16_loading.specs.Closure as closing
 
 module _ {A : Type 0} where
   pub record IsClosureOf (made : Closure A) (closure : closing.Closure) : Type 0 where
     pub found : AllZip IsFoundOf made.found.items closure.found
-    pub bound : closure.bound ≡ map bound_in made.bound.items
+    pub bound : closure.bound ≡ map pair_of made.bound.items
 
 -- the free handles, the lowest first
 abbrev pub free_handles : Modules → List ℕ

@@ -1,7 +1,7 @@
 -- What the code of a load has found and reached, as a closure.
 use Rattle.std.specs.Prelude.{◌≡◌, ℕ, List, [], ◌∷◌, map, take, length}
 use Rattle.w16_format.specs.Tables.{tables_in}
-use Rattle.w16_loader.specs.{declared.tagged.Found.Found, declared.closure.Closure.Closure, Following.left_from, Following.bound_in}
+use Rattle.w16_loader.specs.{declared.tagged.Found.Found, declared.closure.Closure.Closure, Following.left_from, Following.pair_of}
 use Rattle.w16_loading.specs.Closure as closing
 
 -- one module as another, except for what its file says beside its tables
@@ -22,7 +22,7 @@ module _ {A : Type 0} where
   -- what the code has reached, where its modules are the first of these
   abbrev pub reached_of : ℕ → ℕ → Closure A → List closing.Found → closing.Closure
   reached_of place done c all =
-      record { found = take (length c.found.items) all; pending = left_from place done (take (length c.found.items) all); bound = map bound_in c.bound.items }
+      record { found = take (length c.found.items) all; pending = left_from place done (take (length c.found.items) all); bound = map pair_of c.bound.items }
 
   abbrev pub closed_of : Closure A → List closing.Found → closing.Closure
-  closed_of c all = record { found = take (length c.found.items) all; pending = []; bound = map bound_in c.bound.items }
+  closed_of c all = record { found = take (length c.found.items) all; pending = []; bound = map pair_of c.bound.items }

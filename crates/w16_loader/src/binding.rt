@@ -1,7 +1,7 @@
 //! Binding: all relocation records of the new modules of a load get their values, once.
 ghost use Rattle.std.specs.Prelude.{◌≡◌, ◌<◌, ◌≤◌, ◌+◌, ◌-◌, ℕ, List, [], map, length, true, false, Some, Ok, All, IfOk, IfErr, IsSomeAnd, OnOk, OnErr, MatchResult, slice_get, vec_capacity};
 ghost use Rattle.w16_store.specs.Later.{IsLater, RoseIf};
-ghost use Rattle.w16_loader.specs.Devices.{is_bind_device, is_file_device};
+ghost use Rattle.w16_loader.specs.Devices.{is_fault_device};
 ghost use Rattle.std.specs.FinMap as finmap;
 ghost use Rattle.w16_model.specs.Discards.{is_member};
 ghost use Rattle.w16_ne.specs.Texts.{text_in};
@@ -10,46 +10,26 @@ ghost use Rattle.w16_loading.specs.File.{ModuleFile, SegmentData, targets_of};
 ghost use Rattle.w16_loading.specs.Law.{without_values};
 ghost use Rattle.w16_loading.specs.Modules.{imported, module_at, value_of};
 ghost use Rattle.w16_format.specs.Data.{far_of, record_target, target_by};
-ghost use Rattle.w16_loader.specs.Binding.{AreValuesOf, IsForEach, AreTargets, IsSaid, AreSaid, IsFailure, IsBindFailure, IsUnread, values_for, bound_as, all_bound};
+ghost use Rattle.w16_loader.specs.Binding.{AreValuesOf, IsForEach, AreTargets, IsSaid, AreSaid, IsFailure, IsUnread, values_for, bound_as, all_bound};
 
 use crate::entry::{Loaded, NOWHERE};
-use crate::fault::Failure;
-use crate::found::{FileFault, fault_of_check};
+use crate::fault::{LoadFault, damage_at};
+use crate::found::fault_of_relocations;
 use crate::registry::Registry;
 use std::alloc::{AllocError, Allocator};
-use thiserror::Error;
-use w16_loading::FetchFault;
 use w16_reloc::{Far, Record, Scratch, Target, check};
 use w16_store::Store;
 
-/// Why the modules of a load aren't bound.
-#[derive(Clone, Copy, Debug, PartialEq, Eq, Drop, Error)]
-pub enum BindFault {
-    /// The records of a module can't be read: the device failed, or the file reads otherwise than it did.
-    #[error("{0}")]
-    Failed(Failure),
-    /// There was no memory.
-    #[error("out of memory")]
-    OutOfMemory,
-}
-
-/// Why the modules of a load aren't bound, by why the one at a place has no values.
-fn fault_at(place: usize, fault: FileFault) -> BindFault
-    ensures failure { (before : ℕ) (after : ℕ) → IsFailure before after fault → IsBindFailure before after result }
+/// Why a load fails, by why the new module at a place has no values: a file that is refused now reads otherwise than it did.
+fn fault_at(place: usize, fault: LoadFault) -> LoadFault
+    ensures failure { (before : ℕ) (after : ℕ) → IsFailure before after fault → IsFailure before after result }
     ensures unread { (many : ℕ) → place < many → IsUnread many result }
-    ensures device { is_bind_device result ≡ is_file_device fault }
+    ensures device { is_fault_device result ≡ is_fault_device fault }
 {
     match fault {
-        FileFault::OutOfMemory => BindFault::OutOfMemory,
-        FileFault::Device => BindFault::Failed(Failure {
-            place,
-            fault: FetchFault::Store,
-        }),
-        // The file reads otherwise than it did.
-        FileFault::Refused(_) => BindFault::Failed(Failure {
-            place,
-            fault: FetchFault::Damaged,
-        }),
+        LoadFault::OutOfMemory => LoadFault::OutOfMemory,
+        LoadFault::Device => LoadFault::Device,
+        LoadFault::Refused(_) => LoadFault::Refused(damage_at(place)),
     }
 }
 
@@ -133,19 +113,19 @@ fn segment_values<S: Store, A: Allocator + Clone>(
     scratch: &mut Scratch<A>,
     loaded: &Loaded<A>,
     number: usize,
-) -> Result<Vec<Far, A>, FileFault>
+) -> Result<Vec<Far, A>, LoadFault>
     requires first { 0 < number }
     requires last { number ≤ length loaded.now.tables.segments }
     ensures stays { IsLater (S.files store.old) (S.failures store.old) (S.files store.new) (S.failures store.new) }
-    ensures device { IfErr result (RoseIf is_file_device (S.failures store.old) (S.failures store.new)) }
+    ensures device { IfErr result (RoseIf is_fault_device (S.failures store.old) (S.failures store.new)) }
     ensures any { IfOk result (λ values. (targets : List loading.Target) × AreValuesOf (finmap.get registry.now) loaded.now targets values.items
         × ((read : ModuleFile) (s : SegmentData) → S.is_honest → IsSaid (S.files store.old) loaded.now read → slice_get read.segments (number - 1) ≡ Some s → targets ≡ targets_of s)) }
     ensures failed { (read : ModuleFile) (s : SegmentData) → S.is_honest → IsSaid (S.files store.old) loaded.now read → slice_get read.segments (number - 1) ≡ Some s → IfErr result (IsFailure (S.failures store.old) (S.failures store.new)) }
 {
     match check(store, loaded.file(), loaded.module(), number, scratch) {
-        Err(fault) => Err(fault_of_check(fault)),
+        Err(fault) => Err(fault_of_relocations(fault)),
         Ok(()) => match record_values(registry, loaded, scratch) {
-            Err(_) => Err(FileFault::OutOfMemory),
+            Err(_) => Err(LoadFault::OutOfMemory),
             Ok(values) => Ok(values),
         },
     }
@@ -157,9 +137,9 @@ fn module_values<S: Store, A: Allocator + Clone>(
     store: &mut S,
     scratch: &mut Scratch<A>,
     loaded: &Loaded<A>,
-) -> Result<Vec<Vec<Far, A>, A>, FileFault>
+) -> Result<Vec<Vec<Far, A>, A>, LoadFault>
     ensures stays { IsLater (S.files store.old) (S.failures store.old) (S.files store.new) (S.failures store.new) }
-    ensures device { IfErr result (RoseIf is_file_device (S.failures store.old) (S.failures store.new)) }
+    ensures device { IfErr result (RoseIf is_fault_device (S.failures store.old) (S.failures store.new)) }
     ensures any { IfOk result (λ values. (targets : List (List loading.Target)) × (length targets ≡ length loaded.now.tables.segments)
         × (map (λ v. map far_of v.items) values.items ≡ values_for (finmap.get registry.now) loaded.now targets)
         × ((read : ModuleFile) → S.is_honest → IsSaid (S.files store.old) loaded.now read → targets ≡ map targets_of read.segments)) }
@@ -167,7 +147,7 @@ fn module_values<S: Store, A: Allocator + Clone>(
 {
     let count = loaded.module().segment_count();
     let Ok(mut values) = room_for(registry.allocator(), count) else {
-        return Err(FileFault::OutOfMemory);
+        return Err(LoadFault::OutOfMemory);
     };
     for place in 0..count {
         match segment_values(registry, store, scratch, loaded, place + 1) {
@@ -184,9 +164,9 @@ fn bind_module<S: Store, A: Allocator + Clone>(
     store: &mut S,
     scratch: &mut Scratch<A>,
     handle: u16,
-) -> Result<(), FileFault>
+) -> Result<(), LoadFault>
     ensures stays { IsLater (S.files store.old) (S.failures store.old) (S.files store.new) (S.failures store.new) }
-    ensures device { IfErr result (RoseIf is_file_device (S.failures store.old) (S.failures store.new)) }
+    ensures device { IfErr result (RoseIf is_fault_device (S.failures store.old) (S.failures store.new)) }
     ensures any { OnOk result ((targets : List (List loading.Target)) × IsForEach registry.old handle targets × (registry.new ≡ bound_as (finmap.get registry.old) registry.old handle targets)
         × ((read : ModuleFile) → S.is_honest → IsSomeAnd (module_at registry.old handle) (λ m. IsSaid (S.files store.old) m read) → targets ≡ map targets_of read.segments)) }
     ensures failed { (read : ModuleFile) → S.is_honest → IsSomeAnd (module_at registry.old handle) (λ m. IsSaid (S.files store.old) m read) → IfErr result (IsFailure (S.failures store.old) (S.failures store.new)) }
@@ -198,7 +178,7 @@ fn bind_module<S: Store, A: Allocator + Clone>(
     match module_values(registry, store, scratch, loaded) {
         Err(fault) => Err(fault),
         Ok(values) => {
-            registry.bind(handle, values);
+            registry.set_values(handle, values);
             Ok(())
         }
     }
@@ -207,16 +187,15 @@ fn bind_module<S: Store, A: Allocator + Clone>(
 /// Gives the modules of these handles, the new ones of a load, the values of their relocation records: one after another, by what handles name.
 /// Which of them have values already makes no difference. A handle that names no module is passed over.
 ///
-/// `Failed` where a module's file can't be read: with `Store` where the device failed, and `Damaged` where the file reads otherwise than it did at
-/// load. After a fault some of them may have values, and nothing else has changed.
+/// A module whose file reads otherwise than it did refuses the load: a bad file, or a bad reference. After a fault some of them may have values, and nothing else has changed.
 pub(crate) fn bind_modules<S: Store, A: Allocator + Clone>(
     registry: &mut Registry<A>,
     store: &mut S,
     scratch: &mut Scratch<A>,
     handles: &[u16],
-) -> Result<(), BindFault>
+) -> Result<(), LoadFault>
     ensures stays { IsLater (S.files store.old) (S.failures store.old) (S.files store.new) (S.failures store.new) }
-    ensures device { IfErr result (RoseIf is_bind_device (S.failures store.old) (S.failures store.new)) }
+    ensures device { IfErr result (RoseIf is_fault_device (S.failures store.old) (S.failures store.new)) }
     ensures values { (handle : ℕ) → without_values (finmap.get registry.new handle) ≡ without_values (finmap.get registry.old handle) }
     ensures others { (handle : ℕ) → is_member handle handles.now ≡ false → finmap.get registry.new handle ≡ finmap.get registry.old handle }
     ensures any { OnOk result ((targets : List (List (List loading.Target))) × AreTargets registry.old handles.now targets
@@ -225,7 +204,7 @@ pub(crate) fn bind_modules<S: Store, A: Allocator + Clone>(
     ensures bound { (reads : List ModuleFile) → S.is_honest → AreSaid (S.files store.old) registry.old handles.now reads
         → OnOk result (registry.new ≡ all_bound (finmap.get registry.old) registry.old handles.now (map (λ read. map targets_of read.segments) reads)) }
     ensures faults { (reads : List ModuleFile) → S.is_honest → AreSaid (S.files store.old) registry.old handles.now reads
-        → IfErr result (IsBindFailure (S.failures store.old) (S.failures store.new)) }
+        → IfErr result (IsFailure (S.failures store.old) (S.failures store.new)) }
     ensures read { IfErr result (IsUnread (length handles.now)) }
 {
     for (place, handle) in handles.iter().enumerate() {

@@ -1,9 +1,9 @@
 //! Which modules a load finds: the module asked for, and breadth first those that it and the others refer to.
 ghost use Rattle.std.specs.Prelude.{◌≡◌, ◌≤◌, ◌+◌, ◌<◌, ◌-◌, ◌++◌, ◌∷◌, [], ℕ, List, map, length, Ok, Err, IfOk, IfErr, OnOk, None};
 ghost use Rattle.w16_store.specs.Later.{IsLater, RoseIf};
-ghost use Rattle.w16_loader.specs.Devices.{is_file_device};
+ghost use Rattle.w16_loader.specs.Devices.{is_fault_device};
 ghost use Rattle.w16_loading.specs.Closure as closing;
-ghost use Rattle.w16_loading.specs.{Closing.Closes, Closure.begun, Closure.dll};
+ghost use Rattle.w16_loading.specs.{Closing.Closes, Closure.begun, Closure.dll, Refusals.by_reference};
 ghost use Rattle.w16_loading.specs.Modules.{free_modules, handle_named};
 ghost use Rattle.w16_format.specs.Ne.{ne_format};
 ghost use Rattle.w16_loader.specs.Closing.{around_in, found_in, read_in, IsFault};
@@ -13,16 +13,14 @@ ghost use Rattle.w16_format.specs.Tables.{tables_in};
 ghost use Rattle.w16_loader.specs.Answering.{AreAccepted, ClosesOf, IsAccepted, IsClosureBy, IsRefusedFile, IsRefusedName, LeadsBy, LeadsByAnswer, LeadsTo, RefusesBy, answers_of};
 ghost use Rattle.w16_loader.specs.Reached.{reached_of, closed_of};
 
-use crate::found::{FileFault, Reading, Referent, examine_file, meant};
+use crate::fault::LoadFault;
+use crate::found::{Reading, Referent, examine_file, meant};
 use crate::registry::Registry;
 use crate::tagged::{Found, name_tag};
 use std::alloc::{AllocError, Allocator, Global};
-use w16_loading::MOST_MODULES;
+use w16_loading::{LoadRefusal, MOST_MODULES};
 use w16_reloc::Scratch;
 use w16_store::Store;
-
-/// The number of a load that is refused for a file that a reference leads to.
-const BAD_REFERENCE: u16 = 20;
 
 /// A reference of a new module.
 #[derive(Clone, Copy, Debug, PartialEq, Eq)]
@@ -53,22 +51,25 @@ pub enum Followed<A: Allocator = Global> {
     New(Found<A>),
 }
 
-/// The number of a load, by that of a file that a reference leads to: 20, but 0 where no handle is left.
-fn number_of_reference(answer: u16) -> u16
-    ensures { result ≡ following.number_of_reference answer }
+/// Why a load is refused, by why a file is that a reference leads to.
+fn by_reference(refusal: LoadRefusal) -> LoadRefusal
+    ensures { result ≡ by_reference refusal }
 {
-    if answer == 0 { 0 } else { BAD_REFERENCE }
+    match refusal {
+        LoadRefusal::NoRoom => LoadRefusal::NoRoom,
+        _ => LoadRefusal::BadReference,
+    }
 }
 
 /// What a fault of a file that a reference leads to is to a load.
-fn fault_of_reference(fault: FileFault) -> FileFault
+fn fault_of_reference(fault: LoadFault) -> LoadFault
     ensures fault { result ≡ following.fault_of_reference fault }
-    ensures device { is_file_device result ≡ is_file_device fault }
+    ensures device { is_fault_device result ≡ is_fault_device fault }
 {
     match fault {
-        FileFault::Refused(answer) => FileFault::Refused(number_of_reference(answer)),
-        FileFault::Device => FileFault::Device,
-        FileFault::OutOfMemory => FileFault::OutOfMemory,
+        LoadFault::Refused(refusal) => LoadFault::Refused(by_reference(refusal)),
+        LoadFault::Device => LoadFault::Device,
+        LoadFault::OutOfMemory => LoadFault::OutOfMemory,
     }
 }
 
@@ -89,9 +90,9 @@ fn follow_file<S: Store, A: Allocator + Copy>(
     found: &[Found<A>],
     scratch: &mut Scratch<A>,
     file: Vec<u8, A>,
-) -> Result<Followed<A>, FileFault>
+) -> Result<Followed<A>, LoadFault>
     ensures stays { IsLater (S.files store.old) (S.failures store.old) (S.files store.new) (S.failures store.new) }
-    ensures device { IfErr result (RoseIf is_file_device (S.failures store.old) (S.failures store.new)) }
+    ensures device { IfErr result (RoseIf is_fault_device (S.failures store.old) (S.failures store.new)) }
     ensures leads { IfOk result (LeadsByAnswer (answers_of S.is_honest (S.files store.old)) registry.now found.now file.items) }
     ensures refused { IfErr result (IsFault (IsRefusedFile (answers_of S.is_honest (S.files store.old)) registry.now found.now file.items) (S.failures store.old) (S.failures store.new)) }
 {
@@ -121,7 +122,7 @@ impl<A: Allocator + Copy> Closure<A> {
     /// What a reference of one of its modules leads to, by its name, in any case of letters: a module or built-in that is there, or a new module
     /// that it has; else what its file says, that of the name with `.DLL` after it.
     ///
-    /// A file that is refused gives 20; where no handle is left, 0.
+    /// A file that is refused is a bad reference, but where no handle is left.
     pub fn follow<S: Store>(
         &self,
         alloc: A,
@@ -129,9 +130,9 @@ impl<A: Allocator + Copy> Closure<A> {
         store: &mut S,
         scratch: &mut Scratch<A>,
         name: &[u8],
-    ) -> Result<Followed<A>, FileFault>
+    ) -> Result<Followed<A>, LoadFault>
         ensures stays { IsLater (S.files store.old) (S.failures store.old) (S.files store.new) (S.failures store.new) }
-        ensures device { IfErr result (RoseIf is_file_device (S.failures store.old) (S.failures store.new)) }
+        ensures device { IfErr result (RoseIf is_fault_device (S.failures store.old) (S.failures store.new)) }
         ensures leads { IfOk result (LeadsTo (answers_of S.is_honest (S.files store.old)) registry.now self.now.found.items name.now) }
         ensures refused { IfErr result (IsFault (IsRefusedName (answers_of S.is_honest (S.files store.old)) registry.now self.now.found.items name.now) (S.failures store.old) (S.failures store.new)) }
     {
@@ -141,12 +142,12 @@ impl<A: Allocator + Copy> Closure<A> {
         }
         match file_of_reference(self.found.allocator(), name) {
             Ok(file) => follow_file(alloc, registry, store, found, scratch, file),
-            Err(_) => Err(FileFault::OutOfMemory),
+            Err(_) => Err(LoadFault::OutOfMemory),
         }
     }
 
     /// A reference of the module at a place leads there.
-    fn bind(&mut self, place: usize, followed: Followed<A>) -> Result<(), AllocError>
+    fn add_bound(&mut self, place: usize, followed: Followed<A>) -> Result<(), AllocError>
         ensures found { OnOk result (self.new.found.items ≡ found_after self.old.found.items followed) }
         ensures bound { OnOk result (self.new.bound.items ≡ self.old.bound.items ++ record { place = place; referent = referent_after (length self.old.found.items) followed } ∷ []) }
     {
@@ -171,11 +172,11 @@ impl<A: Allocator + Copy> Closure<A> {
         scratch: &mut Scratch<A>,
         place: usize,
         number: usize,
-    ) -> Result<(), FileFault>
+    ) -> Result<(), LoadFault>
         requires first { 0 < number }
         requires last { number ≤ length (references_at self.old.found.items place) }
         ensures stays { IsLater (S.files store.old) (S.failures store.old) (S.files store.new) (S.failures store.new) }
-        ensures device { IfErr result (RoseIf is_file_device (S.failures store.old) (S.failures store.new)) }
+        ensures device { IfErr result (RoseIf is_fault_device (S.failures store.old) (S.failures store.new)) }
         ensures same { OnOk result (references_at self.new.found.items place ≡ references_at self.old.found.items place) }
         ensures few { OnOk result (FindsFew registry.now self.old.found.items self.new.found.items) }
         ensures accepted { OnOk result (AreAccepted (answers_of S.is_honest (S.files store.old)) (map (found_in []) self.old.found.items) → AreAccepted (answers_of S.is_honest (S.files store.old)) (map (found_in []) self.new.found.items)) }
@@ -185,9 +186,9 @@ impl<A: Allocator + Copy> Closure<A> {
         let name = self.found[place].module.reference(number);
         match self.follow(alloc, registry, store, scratch, name) {
             Err(fault) => Err(fault),
-            Ok(followed) => match self.bind(place, followed) {
+            Ok(followed) => match self.add_bound(place, followed) {
                 Ok(()) => Ok(()),
-                Err(_) => Err(FileFault::OutOfMemory),
+                Err(_) => Err(LoadFault::OutOfMemory),
             },
         }
     }
@@ -210,9 +211,9 @@ impl<A: Allocator + Copy> Closure<A> {
         store: &mut S,
         scratch: &mut Scratch<A>,
         place: usize,
-    ) -> Result<(), FileFault>
+    ) -> Result<(), LoadFault>
         ensures stays { IsLater (S.files store.old) (S.failures store.old) (S.files store.new) (S.failures store.new) }
-        ensures device { IfErr result (RoseIf is_file_device (S.failures store.old) (S.failures store.new)) }
+        ensures device { IfErr result (RoseIf is_fault_device (S.failures store.old) (S.failures store.new)) }
         ensures few { OnOk result (FindsFew registry.now self.old.found.items self.new.found.items) }
         ensures accepted { OnOk result (AreAccepted (answers_of S.is_honest (S.files store.old)) (map (found_in []) self.old.found.items) → AreAccepted (answers_of S.is_honest (S.files store.old)) (map (found_in []) self.new.found.items)) }
         ensures leads { OnOk result (LeadsBy (answers_of S.is_honest (S.files store.old)) registry.now self.new.found.items (reached_of place 0 self.old) (reached_of (place + 1) 0 self.new)) }
@@ -235,10 +236,10 @@ impl<A: Allocator + Copy> Closure<A> {
         registry: &Registry<A>,
         store: &mut S,
         scratch: &mut Scratch<A>,
-    ) -> Result<(), FileFault>
+    ) -> Result<(), LoadFault>
         requires { length self.old.found.items ≤ MOST_MODULES }
         ensures stays { IsLater (S.files store.old) (S.failures store.old) (S.files store.new) (S.failures store.new) }
-        ensures device { IfErr result (RoseIf is_file_device (S.failures store.old) (S.failures store.new)) }
+        ensures device { IfErr result (RoseIf is_fault_device (S.failures store.old) (S.failures store.new)) }
         ensures few { OnOk result (FindsFew registry.now self.old.found.items self.new.found.items) }
         ensures accepted { OnOk result (AreAccepted (answers_of S.is_honest (S.files store.old)) (map (found_in []) self.old.found.items) → AreAccepted (answers_of S.is_honest (S.files store.old)) (map (found_in []) self.new.found.items)) }
         ensures leads { OnOk result (LeadsBy (answers_of S.is_honest (S.files store.old)) registry.now self.new.found.items (reached_of 0 0 self.old) (closed_of self.new)) }
@@ -257,7 +258,7 @@ impl<A: Allocator + Copy> Closure<A> {
 /// Finds all modules of a load, of which the module asked for was read, and follows the references of each, breadth first. It takes memory alone:
 /// neither handles nor anything of the machine.
 ///
-/// A number refuses the load: 20 where a file that a reference leads to is refused, 0 where no handle is left for a module.
+/// The load is refused where a file that a reference leads to is, and where no handle is left for a module.
 ///
 /// Where nothing has the name of the module asked for, and a handle is left for it, the modules are those of some closure, whatever the store answers:
 /// no two of them have one name.
@@ -267,18 +268,18 @@ pub fn close<S: Store, A: Allocator + Copy>(
     store: &mut S,
     scratch: &mut Scratch<A>,
     first: Found<A>,
-) -> Result<Closure<A>, FileFault>
+) -> Result<Closure<A>, LoadFault>
     ensures stays { IsLater (S.files store.old) (S.failures store.old) (S.files store.new) (S.failures store.new) }
-    ensures device { IfErr result (RoseIf is_file_device (S.failures store.old) (S.failures store.new)) }
+    ensures device { IfErr result (RoseIf is_fault_device (S.failures store.old) (S.failures store.new)) }
     ensures some { IfOk result (λ made. 0 < length made.found.items) }
     ensures few { 0 < free_modules registry.now → IfOk result (λ made. length made.found.items ≤ free_modules registry.now) }
     ensures accepted { IsAccepted (answers_of S.is_honest (S.files store.old)) first.file.items (tables_in first.module) → IfOk result (λ made. AreAccepted (answers_of S.is_honest (S.files store.old)) (map (found_in []) made.found.items)) }
     ensures closes { IfOk result (IsClosureBy (answers_of S.is_honest (S.files store.old)) registry.now first.file.items (tables_in first.module)) }
     ensures refused { IsAccepted (answers_of S.is_honest (S.files store.old)) first.file.items (tables_in first.module) → IfErr result
-        (IsFault (λ number. ClosesOf (answers_of S.is_honest (S.files store.old)) registry.now first.file.items (tables_in first.module) (Err number)) (S.failures store.old) (S.failures store.new)) }
+        (IsFault (λ refusal. ClosesOf (answers_of S.is_honest (S.files store.old)) registry.now first.file.items (tables_in first.module) (Err refusal)) (S.failures store.old) (S.failures store.new)) }
 {
     let Ok(mut closure) = Closure::begin(first) else {
-        return Err(FileFault::OutOfMemory);
+        return Err(LoadFault::OutOfMemory);
     };
     match closure.follow_all(alloc, registry, store, scratch) {
         Err(fault) => Err(fault),

@@ -179,7 +179,7 @@ impl<A: Allocator> Loaded<A> {
     }
 
     /// It gets these values of its relocation records, for each segment those of its records, whatever it had.
-    pub fn bind(&mut self, values: Vec<Vec<Far, A>, A>)
+    pub fn set_values(&mut self, values: Vec<Vec<Far, A>, A>)
         ensures { self.new ≡ record self.old { values = map (λ v. map far_of v.items) values.items } }
     {
         self.values = values;

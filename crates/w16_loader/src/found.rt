@@ -5,34 +5,28 @@ ghost use Rattle.w16_store.specs.Files.{file_of};
 ghost use Rattle.w16_ne.specs.Reading.{is_ne_device};
 ghost use Rattle.w16_reloc.specs.Segments.{is_reloc_device};
 ghost use Rattle.w16_store.specs.Later.{IsLater, RoseIf, is_device};
-ghost use Rattle.w16_loader.specs.Devices.{is_file_device};
+ghost use Rattle.w16_loader.specs.Devices.{is_fault_device};
 ghost use Rattle.w16_ne.specs.Modules.{tables_at};
 ghost use Rattle.w16_loading.specs.Closure as closing;
 ghost use Rattle.w16_loading.specs.Closure.{are_sound};
 ghost use Rattle.w16_loading.specs.Closure.Reading.{Refused};
+ghost use Rattle.w16_loading.specs.Refusals.{is_of_format};
+ghost use Rattle.w16_loading.specs.declared.LoadRefusal.TheVariants.{BadFile};
 ghost use Rattle.w16_format.specs.Ne as ne;
 ghost use Rattle.w16_format.specs.Tables.{segment_in, tables_in};
 ghost use Rattle.w16_loader.specs.Answering.{IsAccepted, MakesOf, ReadsIn, answers_of};
 ghost use Rattle.w16_loader.specs.Naming.{IsFit};
 ghost use Rattle.w16_loader.specs.Closing as loads;
-ghost use Rattle.w16_loader.specs.Closing.{Files, around_in, referent_of, found_in, said, IsRead, IsFault, IsUnsound, IsThere};
+ghost use Rattle.w16_loader.specs.Closing.{Files, around_in, referent_of, found_in, said, IsFileWith, IsFault, IsUnsound, IsThere};
 
+use crate::fault::LoadFault;
 use crate::registry::Registry;
 use crate::tagged::{Found, name_tag};
 use std::alloc::{Allocator, Global};
-use thiserror::Error;
+use w16_loading::LoadRefusal;
 use w16_ne::{Module, NeFault, read_module};
 use w16_reloc::{RelocFault, Scratch, check};
 use w16_store::{Store, StoreFault};
-
-/// The number of a load whose file isn't there.
-const NO_FILE: u16 = 2;
-
-/// The number of a load whose file isn't accepted, where no other number says why.
-const BAD_FILE: u16 = 11;
-
-/// The number of a load for which no handle is left.
-const NO_HANDLE: u16 = 0;
 
 /// What a name means to a load.
 #[derive(Clone, Copy, Debug, PartialEq, Eq)]
@@ -41,21 +35,6 @@ pub enum Referent {
     There(u16),
     /// A new module of this load, by its place among them from 0.
     New(usize),
-}
-
-/// Why a load makes no module of a file, or the records of a module that it made have no values: a file that reads otherwise than it did is one
-/// that is refused.
-#[derive(Clone, Copy, Debug, PartialEq, Eq, Drop, Error)]
-pub enum FileFault {
-    /// The load is refused, with this number.
-    #[error("the load is refused with {0}")]
-    Refused(u16),
-    /// The store's device failed.
-    #[error("the store's device failed")]
-    Device,
-    /// There was no memory.
-    #[error("out of memory")]
-    OutOfMemory,
 }
 
 /// The first new module of a name that has this tag.
@@ -83,43 +62,43 @@ pub fn meant<A: Allocator>(
     }
 }
 
-/// Why a load makes no module of a file whose length can't be had: 2 where no file has the name.
-fn fault_of_length(fault: StoreFault) -> FileFault
+/// Why a load makes no module of a file whose length can't be had.
+fn fault_of_length(fault: StoreFault) -> LoadFault
     ensures fault { result ≡ loads.fault_of_length fault }
-    ensures device { is_file_device result ≡ is_device fault }
+    ensures device { is_fault_device result ≡ is_device fault }
 {
     match fault {
-        StoreFault::Missing => FileFault::Refused(NO_FILE),
-        StoreFault::Device => FileFault::Device,
-        StoreFault::Short => FileFault::Refused(BAD_FILE),
+        StoreFault::Missing => LoadFault::Refused(LoadRefusal::NoFile),
+        StoreFault::Device => LoadFault::Device,
+        StoreFault::Short => LoadFault::Refused(LoadRefusal::BadFile),
     }
 }
 
-/// What a fault of a file that is there is to a load: 12, 13 or 14 where it is for another target system, else 11.
-fn fault_of(fault: NeFault) -> FileFault
-    ensures fault { result ≡ loads.fault_of fault }
-    ensures refuses { IsFault (λ number. (11 ≤ number) × (number ≤ 14)) 0 1 result }
-    ensures device { is_file_device result ≡ is_ne_device fault }
+/// Why a load makes no module of a file that is there, by the fault of its tables.
+fn fault_of_tables(fault: NeFault) -> LoadFault
+    ensures fault { result ≡ loads.fault_of_tables fault }
+    ensures refuses { IsFault (λ refusal. is_of_format refusal ≡ true) 0 1 result }
+    ensures device { is_fault_device result ≡ is_ne_device fault }
 {
     match fault {
-        NeFault::OutOfMemory => FileFault::OutOfMemory,
-        NeFault::Store(StoreFault::Device) => FileFault::Device,
-        NeFault::Target(1) => FileFault::Refused(12),
-        NeFault::Target(3) => FileFault::Refused(13),
-        NeFault::Target(_) => FileFault::Refused(14),
-        _ => FileFault::Refused(BAD_FILE),
+        NeFault::OutOfMemory => LoadFault::OutOfMemory,
+        NeFault::Store(StoreFault::Device) => LoadFault::Device,
+        NeFault::Target(1) => LoadFault::Refused(LoadRefusal::ForOs2),
+        NeFault::Target(3) => LoadFault::Refused(LoadRefusal::ForDos4),
+        NeFault::Target(_) => LoadFault::Refused(LoadRefusal::ForOtherSystem),
+        _ => LoadFault::Refused(LoadRefusal::BadFile),
     }
 }
 
-/// What a fault of a segment's relocations is to a load.
-pub(crate) fn fault_of_check(fault: RelocFault) -> FileFault
-    ensures fault { result ≡ loads.fault_of_check fault }
-    ensures number { IsFault (λ number. number ≡ 11) 0 1 result }
-    ensures device { is_file_device result ≡ is_reloc_device fault }
+/// Why a load makes no module of a file, by the fault of a segment's relocations.
+pub(crate) fn fault_of_relocations(fault: RelocFault) -> LoadFault
+    ensures fault { result ≡ loads.fault_of_relocations fault }
+    ensures refuses { IsFault (λ refusal. refusal ≡ BadFile) 0 1 result }
+    ensures device { is_fault_device result ≡ is_reloc_device fault }
 {
     match fault {
-        RelocFault::Store(StoreFault::Device) => FileFault::Device,
-        _ => FileFault::Refused(BAD_FILE),
+        RelocFault::Store(StoreFault::Device) => LoadFault::Device,
+        _ => LoadFault::Refused(LoadRefusal::BadFile),
     }
 }
 
@@ -128,37 +107,37 @@ pub fn read_file<S: Store, A: Allocator + Copy>(
     alloc: A,
     store: &mut S,
     name: &[u8],
-) -> Result<Module<A>, FileFault>
+) -> Result<Module<A>, LoadFault>
     ensures stays { IsLater (S.files store.old) (S.failures store.old) (S.files store.new) (S.failures store.new) }
-    ensures device { IfErr result (RoseIf is_file_device (S.failures store.old) (S.failures store.new)) }
-    ensures says { MatchResult result (λ read. (answers_of S.is_honest (S.files store.old)).says name.now (Ok (tables_in read))) (IsFault (λ number. (answers_of S.is_honest (S.files store.old)).says name.now (Err number)) (S.failures store.old) (S.failures store.new)) }
+    ensures device { IfErr result (RoseIf is_fault_device (S.failures store.old) (S.failures store.new)) }
+    ensures says { MatchResult result (λ read. (answers_of S.is_honest (S.files store.old)).says name.now (Ok (tables_in read))) (IsFault (λ refusal. (answers_of S.is_honest (S.files store.old)).says name.now (Err refusal)) (S.failures store.old) (S.failures store.new)) }
 {
     match store.len_of(name) {
         Err(fault) => Err(fault_of_length(fault)),
         Ok(_) => match read_module(alloc, store, name) {
-            Err(fault) => Err(fault_of(fault)),
+            Err(fault) => Err(fault_of_tables(fault)),
             Ok(module) => Ok(module),
         },
     }
 }
 
-/// Whether the relocations of all segments of a module are sound, in the file from which it was read; where they aren't, 11 refuses it.
+/// Whether the relocations of all segments of a module are sound, in the file from which it was read; where they aren't, it is a bad file.
 pub fn check_segments<S: Store, A: Allocator>(
     store: &mut S,
     name: &[u8],
     module_file: &Module<A>,
     scratch: &mut Scratch<A>,
-) -> Result<(), FileFault>
+) -> Result<(), LoadFault>
     ensures stays { IsLater (S.files store.old) (S.failures store.old) (S.files store.new) (S.failures store.new) }
-    ensures device { IfErr result (RoseIf is_file_device (S.failures store.old) (S.failures store.new)) }
+    ensures device { IfErr result (RoseIf is_fault_device (S.failures store.old) (S.failures store.new)) }
     ensures checked { (answers_of S.is_honest (S.files store.old)).says name.now (Ok (tables_in module_file.now)) → MatchResult result (λ _. IsAccepted (answers_of S.is_honest (S.files store.old)) name.now (tables_in module_file.now))
-        (IsFault (λ number. (answers_of S.is_honest (S.files store.old)).sound name.now (tables_in module_file.now) false × (number ≡ 11)) (S.failures store.old) (S.failures store.new)) }
+        (IsFault (λ refusal. (answers_of S.is_honest (S.files store.old)).sound name.now (tables_in module_file.now) false × (refusal ≡ BadFile)) (S.failures store.old) (S.failures store.new)) }
 {
     for place in 0..module_file.segment_count() {
         // Its size is one that an object may have.
         let _ = module_file.segment(place + 1);
         match check(store, name, module_file, place + 1, scratch) {
-            Err(fault) => return Err(fault_of_check(fault)),
+            Err(fault) => return Err(fault_of_relocations(fault)),
             Ok(()) => {}
         }
     }
@@ -175,34 +154,31 @@ pub enum Reading<A: Allocator = Global> {
 }
 
 /// What a load that has found some modules makes of a module that was read of a file.
-fn settle<S: Store, A: Allocator>(
+fn examine_module<S: Store, A: Allocator>(
     registry: &Registry<A>,
     store: &mut S,
     found: &[Found<A>],
     scratch: &mut Scratch<A>,
     name: &[u8],
     read: Module<A>,
-) -> Result<Reading<A>, FileFault>
+) -> Result<Reading<A>, LoadFault>
     ensures stays { IsLater (S.files store.old) (S.failures store.old) (S.files store.new) (S.failures store.new) }
-    ensures device { IfErr result (RoseIf is_file_device (S.failures store.old) (S.failures store.new)) }
+    ensures device { IfErr result (RoseIf is_fault_device (S.failures store.old) (S.failures store.new)) }
     ensures makes { (answers_of S.is_honest (S.files store.old)).says name.now (Ok (tables_in read)) → MatchResult result (MakesOf (answers_of S.is_honest (S.files store.old)) registry.now found.now name.now)
-        (IsFault (λ number. ReadsIn (answers_of S.is_honest (S.files store.old)) registry.now found.now name.now (Refused number)) (S.failures store.old) (S.failures store.new)) }
+        (IsFault (λ refusal. ReadsIn (answers_of S.is_honest (S.files store.old)) registry.now found.now name.now (Refused refusal)) (S.failures store.old) (S.failures store.new)) }
 {
     match meant(registry, found, read.name()) {
         Some(referent) => Ok(Reading::Meant(referent)),
         None => match check_segments(store, name, &read, scratch) {
             Err(fault) => Err(fault),
             Ok(()) if found.len() < registry.free_count() => Ok(Reading::Read(read)),
-            Ok(()) => Err(FileFault::Refused(NO_HANDLE)),
+            Ok(()) => Err(LoadFault::Refused(LoadRefusal::NoRoom)),
         },
     }
 }
 
 /// What a load that has found some modules makes of a file: the module of its name is there already, or it is a new one, whose relocations are
-/// sound and for which a handle is left; or a number refuses it.
-///
-/// That is 2 where there is no such file; 12, 13 or 14 where it is for another target system than Windows; 11 where it isn't accepted otherwise, or
-/// its relocations aren't sound; 0 where no handle is left.
+/// sound and for which a handle is left; or why it is refused.
 ///
 /// Whatever the store answers, a new module has a name that nothing has, and what is there already has a handle, or a place among the modules found.
 pub fn examine_file<S: Store, A: Allocator + Copy>(
@@ -212,14 +188,14 @@ pub fn examine_file<S: Store, A: Allocator + Copy>(
     found: &[Found<A>],
     scratch: &mut Scratch<A>,
     name: &[u8],
-) -> Result<Reading<A>, FileFault>
+) -> Result<Reading<A>, LoadFault>
     ensures stays { IsLater (S.files store.old) (S.failures store.old) (S.files store.new) (S.failures store.new) }
-    ensures device { IfErr result (RoseIf is_file_device (S.failures store.old) (S.failures store.new)) }
-    ensures makes { MatchResult result (MakesOf (answers_of S.is_honest (S.files store.old)) registry.now found.now name.now) (IsFault (λ number. ReadsIn (answers_of S.is_honest (S.files store.old)) registry.now found.now name.now (Refused number)) (S.failures store.old) (S.failures store.new)) }
+    ensures device { IfErr result (RoseIf is_fault_device (S.failures store.old) (S.failures store.new)) }
+    ensures makes { MatchResult result (MakesOf (answers_of S.is_honest (S.files store.old)) registry.now found.now name.now) (IsFault (λ refusal. ReadsIn (answers_of S.is_honest (S.files store.old)) registry.now found.now name.now (Refused refusal)) (S.failures store.old) (S.failures store.new)) }
     ensures there { IfOk result (IsThere registry.now found.now) }
 {
     match read_file(alloc, store, name) {
         Err(fault) => Err(fault),
-        Ok(read) => settle(registry, store, found, scratch, name, read),
+        Ok(read) => examine_module(registry, store, found, scratch, name, read),
     }
 }

@@ -1,7 +1,7 @@
 //! Loads of modules: `LoadModule` and `LoadLibrary`.
-ghost use Rattle.std.specs.Prelude.{◌≡◌, ◌≤◌, ◌<◌, ℕ, Bool, false, List, [], None, length, fold, All, IfOk, IfErr, OnErr};
+ghost use Rattle.std.specs.Prelude.{◌≡◌, ◌≢◌, ◌≤◌, ◌<◌, ℕ, Bool, false, List, [], None, length, fold, All, IfOk, IfErr, OnErr};
 ghost use Rattle.w16_store.specs.Later.{IsLater, RoseIf};
-ghost use Rattle.w16_loader.specs.Devices.{is_of_device, is_bind_device, is_load_device, is_file_device};
+ghost use Rattle.w16_loader.specs.Devices.{is_of_device, is_load_device, is_fault_device};
 ghost use Rattle.std.specs.FinMap as finmap;
 ghost use Rattle.w16_model.specs.Law.{AreHandles};
 ghost use Rattle.w16_loading.specs.Closure as closing;
@@ -14,80 +14,57 @@ ghost use Rattle.w16_format.specs.Ne.{ne_format};
 ghost use Rattle.w16_loader.specs.Answering.{AreAccepted, IsAccepted, answers_of};
 ghost use Rattle.w16_format.specs.Tables.{tables_in};
 ghost use Rattle.w16_loader.specs.Naming.{AreUnbound, IsClosureOf, IsUnbound};
-ghost use Rattle.w16_loader.specs.declared.binding.BindFault.TheVariants.{OutOfMemory};
+ghost use Rattle.w16_loader.specs.declared.fault.LoadFault.TheVariants.{OutOfMemory};
 ghost use Rattle.w16_loader.specs.Registry.{in_world};
-ghost use Rattle.w16_loader.specs.Loading.{LoadsHeld, IsGivenHeld, answer_in, is_application, in_store, refused_by, of_fault, failed_by};
+ghost use Rattle.w16_loader.specs.Loading.{LoadsHeld, IsGivenHeld, load_answer, is_application, in_store, refused_by, fault_of_failure};
 
-use crate::binding::{BindFault, bind_modules};
+use crate::binding::bind_modules;
 use crate::closure::{Closure, close};
 use crate::ending::release_modules;
-use crate::fault::Failure;
+use crate::fault::{Failure, LoadFault, damage_at};
 use crate::filling::fill_modules;
-use crate::found::{FileFault, Reading, Referent, examine_file};
+use crate::found::{Reading, Referent, examine_file};
 use crate::naming::{NameFault, name_modules};
 use crate::registry::Registry;
 use crate::tagged::{Found, name_tag};
 use std::alloc::{AllocError, Allocator, Global};
 use w16_global::Global16;
-use w16_loading::FetchFault;
+use w16_loading::{FetchFault, LoadRefusal};
 use w16_ne::Module;
 use w16_reloc::Scratch;
 use w16_store::Store;
 
-/// The number of a load for which there is no handle, no slot or no room, and of one that would be the 65,001st use.
-const NO_ROOM: u16 = 0;
-
-/// The number of a load whose own file reads otherwise than it did.
-const BAD_FILE: u16 = 11;
-
-/// The number of an application that `LoadModule` would load twice.
-const LOADED_TWICE: u16 = 16;
-
-/// The number of a load where the file of a module that it refers to reads otherwise than it did.
-const BAD_REFERENCE: u16 = 20;
-
 /// What a load answers.
 #[derive(Clone, Copy, Debug, PartialEq, Eq)]
 pub enum LoadAnswer {
-    /// The handle of the module asked for; or a number of 32 or below, which refuses the load.
+    /// The handle of the module asked for, or the number of a refusal.
     Says(u16),
     /// The store's device failed, and nothing is loaded.
     StoreFails,
 }
 
-/// What a load answers where no module is made of its file, or of one that a reference leads to; an error is that there was no memory.
-fn refuse(fault: FileFault) -> Result<LoadAnswer, AllocError>
+/// What a load that fails answers; an error is that there was no memory.
+fn refuse(fault: LoadFault) -> Result<LoadAnswer, AllocError>
     ensures answer { result ≡ refused_by fault }
-    ensures device { IfOk result (λ answer. is_load_device answer ≡ is_file_device fault) }
+    ensures device { IfOk result (λ answer. is_load_device answer ≡ is_fault_device fault) }
 {
     match fault {
-        FileFault::Refused(number) => Ok(LoadAnswer::Says(number)),
-        FileFault::Device => Ok(LoadAnswer::StoreFails),
-        FileFault::OutOfMemory => Err(AllocError),
+        LoadFault::Refused(refusal) => Ok(LoadAnswer::Says(refusal.number())),
+        LoadFault::Device => Ok(LoadAnswer::StoreFails),
+        LoadFault::OutOfMemory => Err(AllocError),
     }
 }
 
-/// What a load answers where a module isn't bound, or an object of it got no bytes; an error is that there was no memory.
-fn fail(fault: BindFault) -> Result<LoadAnswer, AllocError>
-    ensures answer { result ≡ failed_by fault }
-    ensures device { IfOk result (λ answer. is_load_device answer ≡ is_bind_device fault) }
-{
-    match fault {
-        BindFault::OutOfMemory => Err(AllocError),
-        BindFault::Failed(failure) => Ok(answer_of(failure)),
-    }
-}
-
-/// What a load answers where an object of a module got no bytes: a file that reads otherwise than it did is as one that isn't accepted.
-fn answer_of(failure: Failure) -> LoadAnswer
-    ensures answer { result ≡ of_fault failure.place failure.fault }
-    ensures device { is_load_device result ≡ is_of_device failure.fault }
+/// Why a load fails where an object of a module got no bytes: a file that reads otherwise than it did is as one that isn't accepted.
+fn fault_of_failure(failure: Failure) -> LoadFault
+    ensures fault { result ≡ fault_of_failure failure.place failure.fault }
+    ensures memory { result ≢ OutOfMemory }
+    ensures device { is_fault_device result ≡ is_of_device failure.fault }
 {
     match failure.fault {
-        FetchFault::Store => LoadAnswer::StoreFails,
-        FetchFault::NoRoom => LoadAnswer::Says(NO_ROOM),
-        FetchFault::Damaged if failure.place == 0 => LoadAnswer::Says(BAD_FILE),
-        FetchFault::Damaged => LoadAnswer::Says(BAD_REFERENCE),
+        FetchFault::Store => LoadFault::Device,
+        FetchFault::NoRoom => LoadFault::Refused(LoadRefusal::NoRoom),
+        FetchFault::Damaged => LoadFault::Refused(damage_at(failure.place)),
     }
 }
 
@@ -108,7 +85,7 @@ fn count_use<A: Allocator>(registry: &mut Registry<A>, handle: u16) -> u16
     if registry.use_again(handle) {
         handle
     } else {
-        NO_ROOM
+        LoadRefusal::NoRoom.number()
     }
 }
 
@@ -121,21 +98,21 @@ fn load_again<A: Allocator>(registry: &mut Registry<A>, handle: u16, is_load_mod
         return count_use(registry, handle);
     }
     if is_application(registry, handle) {
-        return LOADED_TWICE;
+        return LoadRefusal::LoadedTwice.number();
     }
     count_use(registry, handle)
 }
 
 /// Gives the new modules of a load, which have names, the values of their relocation records, and then its fixed and preload segments their bytes.
-fn give<S: Store, A: Allocator + Copy>(
+fn bind_and_fill<S: Store, A: Allocator + Copy>(
     registry: &mut Registry<A>,
     global: &mut Global16<A>,
     store: &mut S,
     scratch: &mut Scratch<A>,
     handles: &[u16],
-) -> Result<(), BindFault>
+) -> Result<(), LoadFault>
     ensures stays { IsLater (S.files store.old) (S.failures store.old) (S.files store.new) (S.failures store.new) }
-    ensures device { IfErr result (RoseIf is_bind_device (S.failures store.old) (S.failures store.new)) }
+    ensures device { IfErr result (RoseIf is_fault_device (S.failures store.old) (S.failures store.new)) }
     ensures given { (rest : LoadingWorld) (old : LoadingWorld) (meant : closing.Closure) (start : ℕ) → start ≤ S.failures store.old → AreHandles old.handles → AreAccepted (answers_of S.is_honest (S.files store.old)) meant.found
         → AreUnbound old meant handles.now (in_world (with_handles rest global.old.handles) registry.old)
         → IsGivenHeld S.is_honest (S.files store.old) start (S.failures store.new) old meant handles.now result (in_world (with_handles rest global.new.handles) registry.new) }
@@ -148,7 +125,7 @@ fn give<S: Store, A: Allocator + Copy>(
         Err(fault) => Err(fault),
         Ok(()) => match fill_modules(registry, global, store, scratch, handles) {
             Ok(()) => Ok(()),
-            Err(failure) => Err(BindFault::Failed(failure)),
+            Err(failure) => Err(fault_of_failure(failure)),
         },
     }
 }
@@ -167,20 +144,20 @@ fn load_closure<S: Store, A: Allocator + Copy>(
     ensures stays { IsLater (S.files store.old) (S.failures store.old) (S.files store.new) (S.failures store.new) }
     ensures device { IfOk result (RoseIf is_load_device (S.failures store.old) (S.failures store.new)) }
     ensures loads { (rest : LoadingWorld) (meant : closing.Closure) (start : ℕ) → start ≤ S.failures store.old → IsClosureOf closure meant → AreAccepted (answers_of S.is_honest (S.files store.old)) meant.found
-        → IfOk result (λ answer. LoadsHeld S.is_honest (S.files store.old) start (S.failures store.new) (in_world (with_handles rest global.old.handles) registry.old) meant (answer_in answer) (in_world (with_handles rest global.new.handles) registry.new)) }
+        → IfOk result (λ answer. LoadsHeld S.is_honest (S.files store.old) start (S.failures store.new) (in_world (with_handles rest global.old.handles) registry.old) meant (load_answer answer) (in_world (with_handles rest global.new.handles) registry.new)) }
     ensures err { OnErr result ((registry.new ≡ registry.old) × (global.new ≡ global.old)) }
 {
     global.reveal_handles();
     let handles = match name_modules(registry, global, closure) {
         Ok(handles) => handles,
-        Err(NameFault::NoSlot) => return Ok(LoadAnswer::Says(NO_ROOM)),
+        Err(NameFault::NoSlot) => return Ok(LoadAnswer::Says(LoadRefusal::NoRoom.number())),
         Err(NameFault::OutOfMemory) => return Err(AllocError),
     };
-    match give(registry, global, store, scratch, handles.as_slice()) {
+    match bind_and_fill(registry, global, store, scratch, handles.as_slice()) {
         Ok(()) => Ok(LoadAnswer::Says(handles[0])),
         Err(fault) => {
             release_modules(registry, global, handles.as_slice());
-            fail(fault)
+            refuse(fault)
         }
     }
 }
@@ -199,7 +176,7 @@ fn load_new<S: Store, A: Allocator + Copy>(
     ensures stays { IsLater (S.files store.old) (S.failures store.old) (S.files store.new) (S.failures store.new) }
     ensures device { IfOk result (RoseIf is_load_device (S.failures store.old) (S.failures store.new)) }
     ensures loads { (rest : LoadingWorld) (start : ℕ) → start ≤ S.failures store.old → IsAccepted (answers_of S.is_honest (S.files store.old)) file.now (tables_in read) → handle_named registry.old read.name ≡ None
-        → IfOk result (λ answer. (is_load_module : Bool) → LoadsFrom FillsFewest (told S.is_honest ne_format (S.files store.old) start (S.failures store.new)) is_load_module (in_store rest registry.old global.old.handles (S.files store.old) start) file.now (answer_in answer)
+        → IfOk result (λ answer. (is_load_module : Bool) → LoadsFrom FillsFewest (told S.is_honest ne_format (S.files store.old) start (S.failures store.new)) is_load_module (in_store rest registry.old global.old.handles (S.files store.old) start) file.now (load_answer answer)
         (in_store rest registry.new global.new.handles (S.files store.old) start)) }
     ensures err { OnErr result ((registry.new ≡ registry.old) × (global.new ≡ global.old)) }
 {
@@ -247,7 +224,7 @@ pub fn load<S: Store, A: Allocator + Copy>(
     ensures stays { IsLater (S.files store.old) (S.failures store.old) (S.files store.new) (S.failures store.new) }
     ensures device { IfOk result (RoseIf is_load_device (S.failures store.old) (S.failures store.new)) }
     ensures over { (rest : LoadingWorld) → IfOk result (λ answer. LoadsFrom FillsFewest (told S.is_honest ne_format (S.files store.old) (S.failures store.old) (S.failures store.new)) is_load_module
-        (in_store rest registry.old global.old.handles (S.files store.old) (S.failures store.old)) file.now (answer_in answer)
+        (in_store rest registry.old global.old.handles (S.files store.old) (S.failures store.old)) file.now (load_answer answer)
         (in_store rest registry.new global.new.handles (S.files store.old) (S.failures store.old))) }
     ensures err { OnErr result ((registry.new ≡ registry.old) × (global.new ≡ global.old)) }
 {

@@ -15,7 +15,7 @@ ghost use Rattle.w16_loading.specs.Release.{without_objects};
 ghost use Rattle.w16_format.specs.Tables.{segment_in, tables_in};
 ghost use Rattle.w16_loader.specs.declared.naming.NameFault.TheVariants.{NoSlot};
 ghost use Rattle.w16_loader.specs.Closing.{referent_of};
-ghost use Rattle.w16_loader.specs.Following.{bound_in};
+ghost use Rattle.w16_loader.specs.Following.{pair_of};
 ghost use Rattle.w16_loader.specs.Reached.{IsFoundOf};
 ghost use Rattle.w16_loader.specs.Naming.{IsClosureOf, IsFit, IsUnbound, Takes, GetsName, GetNames, free_handles, imports_among, unbound_by};
 ghost use Rattle.w16_loader.specs.Registry.{in_world};
@@ -265,7 +265,7 @@ fn imports_of<A: Allocator + Copy>(
     handles: &[u16],
 ) -> Result<Vec<Vec<u16, A>, A>, AllocError>
     ensures many { IfOk result (λ made. length made.items ≡ length handles.now) }
-    ensures imports { IfOk result (λ made. (place : ℕ) → place < length handles.now → slice_index_or (map (λ v. v.items) made.items) place [] ≡ imports_among handles.now (map bound_in bound.now) place) }
+    ensures imports { IfOk result (λ made. (place : ℕ) → place < length handles.now → slice_index_or (map (λ v. v.items) made.items) place [] ≡ imports_among handles.now (map pair_of bound.now) place) }
 {
     let mut made = empty_lists(alloc, handles.len())?;
     for reference in bound {

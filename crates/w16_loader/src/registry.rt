@@ -245,14 +245,14 @@ impl<A: Allocator> Registry<A> {
     }
 
     /// Gives a module the values of its relocation records, for each segment those of its records; a handle that names none changes nothing.
-    pub fn bind(&mut self, handle: u16, values: Vec<Vec<Far, A>, A>)
+    pub fn set_values(&mut self, handle: u16, values: Vec<Vec<Far, A>, A>)
         ensures { self.new ≡ with_values self.old handle (map (λ v. map far_of v.items) values.items) }
     {
         let place = handle as usize;
         match table::take_module(&mut self.entries, place) {
             None => {}
             Some(mut loaded) => {
-                loaded.bind(values);
+                loaded.set_values(values);
                 self.entries.put(place, Entry::Loaded(loaded));
             }
         }

@@ -11,7 +11,7 @@ ghost use Rattle.w16_global.specs.Owned.{LacksBytes};
 ghost use Rattle.w16_loading.specs.declared.FetchFault.TheVariants.{Store as store_fails};
 ghost use Rattle.w16_loading.specs.Fill.{is_of_read};
 ghost use Rattle.w16_format.specs.Tables.{tables_in};
-ghost use Rattle.w16_loader.specs.Fetching.{fault_of, fault_in, IsWritten, IsSourceOf, GivesBytes, GivesSegment};
+ghost use Rattle.w16_loader.specs.Fetching.{fetch_fault, fault_in, IsWritten, IsSourceOf, GivesBytes, GivesSegment};
 ghost use Rattle.w16_loader.specs.Devices.{is_of_device};
 
 use crate::entry::Loaded;
@@ -37,8 +37,8 @@ pub struct SegmentSource<'a, A: Allocator = Global> {
 }
 
 /// Why a fetch fails whose segment isn't relocated.
-pub fn fault_of(fault: RelocFault) -> FetchFault
-    ensures fault { result ≡ fault_of fault }
+pub fn fetch_fault(fault: RelocFault) -> FetchFault
+    ensures fault { result ≡ fetch_fault fault }
     ensures device { is_of_device result ≡ is_reloc_device fault }
 {
     match fault {
@@ -68,7 +68,7 @@ fn read<S: Store, A: Allocator>(
         → MatchResult result (λ _. scratch.new.held ≡ held) (λ fault. fault ≡ store_fails) }
 {
     if let Err(fault) = check(store, source.file, source.module, source.number, scratch) {
-        return Err(fault_of(fault));
+        return Err(fetch_fault(fault));
     }
     if scratch.records().len() != source.values.len() {
         return Err(FetchFault::Damaged);
@@ -78,7 +78,7 @@ fn read<S: Store, A: Allocator>(
 
 /// Gives an object that a module owns, and that has no bytes, those that a work writes. False, and nothing has changed, where there is no room, and
 /// where the handle names no such object.
-pub fn give<A: Allocator + Copy>(
+pub fn give_bytes<A: Allocator + Copy>(
     global: &mut Global16<A>,
     handle: u16,
     work: &SegmentWork<'_>,
@@ -130,7 +130,7 @@ pub fn fetch<S: Store, A: Allocator + Copy>(
         records: scratch.records(),
         values: source.values,
     };
-    if give(global, handle, &work) {
+    if give_bytes(global, handle, &work) {
         Ok(())
     } else {
         Err(FetchFault::NoRoom)

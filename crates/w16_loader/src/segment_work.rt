@@ -9,7 +9,7 @@ use w16_region::Space;
 use w16_reloc::{Far, Record, apply};
 
 /// Puts data at the front of some bytes, as many as have room, and zeros after them.
-fn place(bytes: &mut [u8], source: &[u8])
+fn copy_padded(bytes: &mut [u8], source: &[u8])
     ensures placed { length source.now ≤ length bytes.old → (o : ℕ) → byte bytes.new o ≡ byte source.now o }
     ensures length { length bytes.new ≡ length bytes.old }
 {
@@ -27,7 +27,7 @@ fn write_image(bytes: &mut [u8], source: &[u8], records: &[Record], values: &[Fa
     ensures length { length bytes.new ≡ length bytes.old }
     ensures words { All IsFar values.now }
 {
-    place(bytes, source);
+    copy_padded(bytes, source);
     apply(bytes, records, values);
 }
 

@@ -1,16 +1,18 @@
 -- Steps by answers: what they are by other answers, and what a load leaves, whatever is answered.
 use Rattle.w16_loading.proofs
 use proofs.Common as C
-use proofs.Common.{◌≡◌, ℕ, zero, suc, ◌<◌, ◌≤◌, inl, inr, ◌⊎◌, Bool, true, false, cond, ◌==◌, List, [], ◌∷◌, length, Option, Some, None, MatchResult, Result, Ok, Err, refl, sym, ap, ◌∙◌, subst, arith, Heap, FIRST_MODULE, FetchFault, Store, Damaged, NoRoom, Resource, LoadingWorld, Load}
-use proofs.Common.{Named, Reply, Fills, Closure, Reading, Found, around, begun, dll, with_bound, meant, Refused, Meant, Read, There, New, named, fills, Answer, Fulfils, used_again, load_of, ModuleCommand, ResourceCommand, OfFar, IsRefusal, Loaded, Module, MOST_USES, Says, after_use, not}
+use proofs.Common.{◌≡◌, ℕ, zero, suc, ◌<◌, inl, inr, ◌⊎◌, Bool, true, false, cond, ◌==◌, List, [], ◌∷◌, length, Option, Some, None, MatchResult, Ok, Err, refl, sym, ap, ◌∙◌, subst, Heap, FIRST_MODULE, FetchFault, Resource, LoadingWorld, Load, LoadRefusal, OrRefused, refusal_number, refused_with}
+use proofs.Common.{Named, Reply, Fills, Closure, Reading, around, begun, dll, with_bound, meant, Refused, Meant, Read, There, New, named, fills, Answer, Fulfils, used_again, load_of, ModuleCommand, ResourceCommand, OfFar, IsRefusal, Loaded, Module, MOST_USES, Says, after_use, not}
 use proofs.Common.{◌&&◌}
 use proofs.ClosureFacts.{IsClosure, began, bound_more, found_more}
 use proofs.Cases.{IsLoadable, bool_as, option_as}
 use proofs.{Importers.named_there, Fillings.in_turn_so}
 use Rattle.std.specs.List.{AllByRecursion as Each}
 use Rattle.w16_loading.specs.Families.{access_of}
-use Rattle.w16_loading.specs.Answers.{Answers, ClosesFrom, GivesFrom, LoadsFileFrom, LoadsFrom, ReadsFile, follow, told}
+use Rattle.w16_loading.specs.Answers.{Answers, ClosesFrom, GivesFrom, LoadsFileFrom, LoadsFrom, ReadsFile, follow}
 use Rattle.std.specs.FinMap as finmap
+use Rattle.w16_loading.specs.declared.FetchFault.TheVariants as faults
+use Rattle.w16_loading.specs.declared.LoadRefusal.TheVariants as refusals
 
 -- A family's step by some fetches and loads is one by others, where these are those.
 
@@ -57,25 +59,28 @@ fulfils_as f g Is turns old closure answer new h is = record {
 
 -- Whatever is answered.
 
--- answers as any store may give them
-pub record AreAnswers (answers : Answers) : Type 0 where
-  pub refuses : (name : List ℕ) (number : ℕ) → answers.says name (Err number) → number ≤ 14
-  pub holds : (name : List ℕ) (read : C.ModuleFile) → answers.holds name read → C.IsModuleFile read
+-- what is held of a module is a file
+abbrev pub HoldFiles : Answers → Type 0
+HoldFiles answers = (name : List ℕ) (read : C.ModuleFile) → answers.holds name read → C.IsModuleFile read
 
-pub told_answers : (honest : Type 0) (format : C.Format) (files : List (List ℕ × List ℕ)) (before after : ℕ) → AreAnswers (told honest format files before after)
-told_answers honest format files before after = record { refuses = λ name number h. elim h.0 [ inl e ↦ omega (arith, e.0) | inr f ↦ f.1 ]; holds = λ name read h. h.0 }
+-- a refusal answers a number that is none of a handle
+is_small : (refusal : LoadRefusal) → C.nat_lt (refusal_number refusal) FIRST_MODULE ≡ true
+is_small refusals.NoRoom = refl
+is_small refusals.NoFile = refl
+is_small refusals.BadFile = refl
+is_small refusals.ForOs2 = refl
+is_small refusals.ForDos4 = refl
+is_small refusals.ForOtherSystem = refl
+is_small refusals.LoadedTwice = refl
+is_small refusals.BadReference = refl
 
-small : (number : ℕ) → number ≤ 32 → number < FIRST_MODULE
-small number le = let first : FIRST_MODULE ≡ 33 = refl in omega (arith, first, le)
+pub small_number : (refusal : LoadRefusal) → refusal_number refusal < FIRST_MODULE
+small_number refusal = C.ltb-true (refusal_number refusal) FIRST_MODULE (is_small refusal)
 
 small_refusal : (place : ℕ) (fault : FetchFault) → IsRefusal (C.refusal_of place fault)
-small_refusal place Store = tt
-small_refusal place NoRoom = small 0 (omega arith)
-small_refusal place Damaged = turn _
-  where
-    turn : (b : Bool) → cond b 11 20 < FIRST_MODULE
-    turn true = small 11 (omega arith)
-    turn false = small 20 (omega arith)
+small_refusal place faults.Store = tt
+small_refusal place faults.NoRoom = small_number refusals.NoRoom
+small_refusal place faults.Damaged = small_number (cond (place == 0) refusals.BadFile refusals.BadReference)
 
 -- A load is refused in the same world; or of a module that is there; or of new modules, as they were told.
 abbrev pub LoadsOf : Answers → C.Loading
@@ -84,24 +89,11 @@ LoadsOf answers b old file answer new =
     ⊎ ((handle : ℕ) × (n : Named) × (finmap.get old.modules handle ≡ Some n) × ((answer, new) ≡ used_again b old handle (Some n)))
     ⊎ ((closure : Closure) × IsClosure answers (around old).named closure × Fulfils (GivesFrom Fills answers) old closure answer new)
 
-module _ (answers : Answers) (are : AreAnswers answers) (old : LoadingWorld) where
-  -- a number that refuses a load
-  small_number : (found : List Found) (name : List ℕ) (number : ℕ) → ReadsFile answers (around old) found name (Refused number) → number < FIRST_MODULE
-  small_number found name number (inl says) = let le = are.refuses name number says in small number (omega (arith, le))
-  small_number found name number (inr (t, says, none, inl h)) = let e : number ≡ 11 = h.1 in small number (omega (arith, e))
-  small_number found name number (inr (t, says, none, inr h)) = let e : number ≡ 0 = h.2 in small number (omega (arith, e))
+module _ (answers : Answers) (old : LoadingWorld) where
+  abbrev IsEnd : OrRefused Closure → Type 0
+  IsEnd outcome = C.IfOk outcome (IsClosure answers (around old).named)
 
-  small_follow : (answer : ℕ) → cond (answer == 0) 0 20 < FIRST_MODULE
-  small_follow answer = turn (answer == 0)
-    where
-      turn : (b : Bool) → cond b 0 20 < FIRST_MODULE
-      turn true = small 0 (omega arith)
-      turn false = small 20 (omega arith)
-
-  abbrev IsEnd : Result Closure ℕ → Type 0
-  IsEnd outcome = MatchResult outcome (IsClosure answers (around old).named) (λ number. number < FIRST_MODULE)
-
-  closed : (n : ℕ) (closure : Closure) (outcome : Result Closure ℕ) → IsClosure answers (around old).named closure → ClosesFrom answers (around old) n closure outcome → IsEnd outcome
+  closed : (n : ℕ) (closure : Closure) (outcome : OrRefused Closure) → IsClosure answers (around old).named closure → ClosesFrom answers (around old) n closure outcome → IsEnd outcome
   closed zero closure outcome h f = subst IsEnd (sym f.1) h
   closed (suc n) closure outcome h (place, name, rest, e, more) = by_name (λ c k d. closed n c outcome k d) (meant (around old) closure.found name) more
     where
@@ -121,13 +113,13 @@ module _ (answers : Answers) (are : AreAnswers answers) (old : LoadingWorld) whe
       by_meant go referent = go (with_bound here place referent) (bound_more answers (around old) here place referent few.0 is)
 
       by_reading : Goes → (r : Reading) → ReadsFile answers (around old) closure.found (dll name) r
-          → MatchResult (follow here place name r) (λ c. ClosesFrom answers (around old) n c outcome) (λ number. outcome ≡ Err number) → IsEnd outcome
-      by_reading go (Refused answer) reads f = subst IsEnd (sym f) (small_follow answer)
+          → MatchResult (follow here place name r) (λ c. ClosesFrom answers (around old) n c outcome) (λ refusal. outcome ≡ Err refusal) → IsEnd outcome
+      by_reading go (Refused refusal) reads f = subst IsEnd (sym f) tt
       by_reading go (Meant referent) reads f = by_meant go referent f
       by_reading go (Read read) (says, none, sound, held, free) f = go (with_bound (C.with_found here (dll name) read) place (New (length closure.found))) (found_more answers (around old) here place (dll name) read few.0 is held none) f
 
       by_name : Goes → (p : Option C.Referent) → C.MatchOption p ((r : Reading) × ReadsFile answers (around old) closure.found (dll name) r
-          × MatchResult (follow here place name r) (λ c. ClosesFrom answers (around old) n c outcome) (λ number. outcome ≡ Err number))
+          × MatchResult (follow here place name r) (λ c. ClosesFrom answers (around old) n c outcome) (λ refusal. outcome ≡ Err refusal))
           (λ referent. ClosesFrom answers (around old) n (with_bound here place referent) outcome) → IsEnd outcome
       by_name go None (r, reads, f) = by_reading go r reads f
       by_name go (Some referent) f = by_meant go referent f
@@ -136,11 +128,11 @@ module _ (answers : Answers) (are : AreAnswers answers) (old : LoadingWorld) whe
   closure_loads b file answer new (inl f) = inl (subst IsRefusal (sym f.1) tt, f.2)
   closure_loads b file answer new (inr (r, reads, f)) = turn r reads f
     where
-      refused : (number : ℕ) → number < FIRST_MODULE → C.Refuses old number answer new → LoadsOf answers b old file answer new
-      refused number few f = inl (subst IsRefusal (sym f.0) few, f.1)
+      refused : (refusal : LoadRefusal) → C.Refuses old refusal answer new → LoadsOf answers b old file answer new
+      refused refusal f = inl (subst IsRefusal (sym f.0) (small_number refusal), f.1)
 
       turn : (r : Reading) → ReadsFile answers (around old) [] file r → LoadsFileFrom Fills answers b old file r answer new → LoadsOf answers b old file answer new
-      turn (Refused number) e f = refused number (small_number [] file number e) f
+      turn (Refused refusal) e f = refused refusal f
       turn (Meant (There handle)) (t, says, e) f = by_name (C.handle_named old.modules t.name) refl e
         where
           by_name : (p : Option ℕ) → C.handle_named old.modules t.name ≡ p → C.option_or (C.option_map There p) None ≡ Some (There handle) → LoadsOf answers b old file answer new
@@ -152,13 +144,13 @@ module _ (answers : Answers) (are : AreAnswers answers) (old : LoadingWorld) whe
       turn (Meant (New place)) e f = absurd f
       turn (Read read) (says, none, sound, held, few) (count, outcome, closes, f) = ended outcome (closed count (begun file read) outcome (began answers (around old) file read held none) closes) f
         where
-          ended : (outcome : Result Closure ℕ) → IsEnd outcome
-              → MatchResult outcome (λ closure. C.LoadsNew (GivesFrom Fills answers) old closure answer new ⊎ ((place : ℕ) × (fault : FetchFault) × answers.fails fault × (answer ≡ C.refusal_of place fault) × (new ≡ old))) (λ number. C.Refuses old number answer new)
+          ended : (outcome : OrRefused Closure) → IsEnd outcome
+              → MatchResult outcome (λ closure. C.LoadsNew (GivesFrom Fills answers) old closure answer new ⊎ ((place : ℕ) × (fault : FetchFault) × answers.fails fault × (answer ≡ C.refusal_of place fault) × (new ≡ old))) (λ refusal. C.Refuses old refusal answer new)
               → LoadsOf answers b old file answer new
-          ended (Ok closure) h (inl (inl f)) = refused 0 (small 0 (omega arith)) f.1
+          ended (Ok closure) h (inl (inl f)) = refused refusals.NoRoom f.1
           ended (Ok closure) h (inl (inr f)) = inr (inr (closure, h, f))
           ended (Ok closure) h (inr (place, fault, may, says, same)) = inl (subst IsRefusal (sym says) (small_refusal place fault), same)
-          ended (Err number) h f = refused number h f
+          ended (Err refusal) h f = refused refusal f
 
   -- What holds of the world before, and of what a load of a module that is there and one of new modules leave, holds of what any load leaves.
   module _ (P : Answer → LoadingWorld → Type 0) (good : (answer : Answer) → P answer old) where
@@ -172,12 +164,12 @@ module _ (answers : Answers) (are : AreAnswers answers) (old : LoadingWorld) whe
         by (Some (Loaded m)) more = turn (b && not m.tables.is_library) (C.nat_lt m.uses MOST_USES) refl
           where
             outcome : Bool → Bool → Answer × LoadingWorld
-            outcome s t = cond {A = Answer × LoadingWorld} s (Says 16, old) (cond t (Says handle, after_use old handle m) (Says 0, old))
+            outcome s t = cond {A = Answer × LoadingWorld} s (refused_with refusals.LoadedTwice, old) (cond t (Says handle, after_use old handle m) (refused_with refusals.NoRoom, old))
 
             turn : (s t : Bool) → C.nat_lt m.uses MOST_USES ≡ t → P (outcome s t).0 (outcome s t).1
-            turn true t f = good (Says 16)
+            turn true t f = good (refused_with refusals.LoadedTwice)
             turn false true f = more m refl (C.ltb-true m.uses MOST_USES f)
-            turn false false f = good (Says 0)
+            turn false false f = good (refused_with refusals.NoRoom)
 
     pub loaded_by : (b : Bool) (file : List ℕ) (answer : Answer) (new : LoadingWorld) → ((handle : ℕ) (m : Module) → finmap.get old.modules handle ≡ Some (Loaded m) → m.uses < MOST_USES → P (Says handle) (after_use old handle m))
         → ((closure : Closure) → IsClosure answers (around old).named closure → Fulfils (GivesFrom Fills answers) old closure answer new → P answer new) → LoadsFrom Fills answers b old file answer new → P answer new

@@ -7,7 +7,7 @@ use proofs.Spared.{HasPinned, IsSpared, same_spared}
 use proofs.SparedByFrees.{resource_ended, uses_ended}
 use proofs.SparedByLoads.{modules_loaded, resource_loaded}
 use proofs.SparedByUses.{access_spares, access_stands, lock_spares, lock_stands}
-use proofs.{Answered.AreAnswers, Answered.told_answers, Cases.by_option, CallsKept.answered, Owners.some_of}
+use proofs.{Cases.by_option, CallsKept.answered, Owners.some_of}
 use Rattle.w16_model.specs.Calls as calls
 use Rattle.w16_model.proofs.Bystanders as calls_proofs
 
@@ -23,7 +23,7 @@ resize_call old command reply next step = let s : (answer : calls.Answer) × Res
     by (GlobalDiscard handle) (calls.Answer.Dword answer) step = absurd step
     by (GlobalDiscard handle) (calls.Answer.Walked answer) step = absurd step
 
-module _ (answers : C.Answers) (are : AreAnswers answers) (old : LoadingWorld) (is : C.IsLoadingWorld old) (q : ℕ) (there : C.is_some (object_at old.handles.heap q) ≡ true) (new : LoadingWorld) (reply : Reply) where
+module _ (answers : C.Answers) (old : LoadingWorld) (is : C.IsLoadingWorld old) (q : ℕ) (there : C.is_some (object_at old.handles.heap q) ≡ true) (new : LoadingWorld) (reply : Reply) where
   abbrev Spared : LoadingWorld → Type 0
   Spared world = IsSpared old.handles.heap world.handles.heap q
 
@@ -42,8 +42,8 @@ module _ (answers : C.Answers) (are : AreAnswers answers) (old : LoadingWorld) (
 
   modules : (command : C.ModuleCommand) → C.ModuleStep (LoadsFrom Fills answers) old command reply new → SparedOrReleased (OfModules command)
   modules (C.Builtin name) f = inl (built name f.0 f.2)
-  modules (C.LoadModule file) f = inl (modules_loaded answers old is q there are true file f.0 new f.2)
-  modules (C.LoadLibrary file) f = inl (modules_loaded answers old is q there are false file f.0 new f.2)
+  modules (C.LoadModule file) f = inl (modules_loaded answers old is q there true file f.0 new f.2)
+  modules (C.LoadLibrary file) f = inl (modules_loaded answers old is q there false file f.0 new f.2)
   modules (C.FreeLibrary handle) f = uses_ended old is q handle f.0 new f.2
   modules (C.FreeModule handle) f = uses_ended old is q handle f.0 new f.2
   modules other f = inl (same_world f.1)
@@ -96,14 +96,14 @@ may_go old new failures q command g = absurd g
 
 pub bystanders_law : (honest : Type 0) → C.StepBystandersLaw honest
 bystanders_law honest format old new command reply q is step there out =
-    elim (family_spares (told _ format _ old.failures new.failures) (told_answers _ format _ _ _) old is q there (record new { failures = old.failures }) reply command step.step out) [
+    elim (family_spares (told _ format _ old.failures new.failures) old is q there (record new { failures = old.failures }) reply command step.step out) [
       | inl s ↦ inl s.0
       | inr r ↦ inr (r.0, may_go old new _ q _ r.1)
     ]
 
 pub pinned_law : (honest : Type 0) → C.StepPinnedLaw honest
 pinned_law honest format old new command reply q is step pinned out =
-    elim (family_stands (told _ format _ old.failures new.failures) (told_answers _ format _ _ _) old is q (some _ pinned) (record new { failures = old.failures }) reply pinned command step.step out) [
+    elim (family_stands (told _ format _ old.failures new.failures) old is q (some _ pinned) (record new { failures = old.failures }) reply pinned command step.step out) [
       | inl s ↦ inl s
       | inr r ↦ inr (r.0, may_go old new _ q _ r.1)
     ]

@@ -1,9 +1,8 @@
--- The order in which unused modules go doesn't matter: what is idle stays so until it goes, and two go in either order.
+-- An unused module goes.
 use Rattle.w16_loading.proofs
 use proofs.Common as C
-use proofs.Common.{◌≡◌, ◌≢◌, ℕ, inl, inr, ◌⊎◌, Bool, true, not, List, [], ◌∷◌, Some, None, sym, ap, ◌∙◌, subst, false≢true, is_member, taken_other, LoadingWorld, Module, Named, Go, without_module}
-use proofs.Importers.{HasImporter, Idle, idle_parts, is_then_idle}
-use proofs.{Absences.retained_swapped, Absences.removed_swapped, Bound.world_without}
+use proofs.Common.{◌≡◌, ℕ, Some, ap, is_member, LoadingWorld, Module, without_module}
+use proofs.{Bound.world_without}
 use Rattle.std.specs.FinMap as finmap
 
 -- the world without a module that is there
@@ -12,77 +11,3 @@ gone_with world handle m = let left = C.without_objects (λ q. is_member q m.slo
 
 pub went : (world : LoadingWorld) (handle : ℕ) (m : Module) → finmap.get world.modules handle ≡ Some (C.Loaded m) → without_module world handle ≡ gone_with world handle m
 went world handle m e = ap (λ p. world_without world handle (C.module_in p)) e
-
--- what is idle stays idle until it goes
-stays_idle : (world : LoadingWorld) (handle k : ℕ) (m : Module) → k ≢ handle → Idle world.modules k → Idle (gone_with world handle m).modules k
-stays_idle world handle k m d h = record {
-  idle = h.idle;
-  loaded = taken_other _ _ k d ∙ h.loaded;
-  unused = h.unused;
-  alone = λ i. h.alone (record { who = i.who; importer = i.importer; there = before i; other = i.other; uses = i.uses });
-}
-  where
-    before : (i : HasImporter (finmap.remove world.modules handle) k) → finmap.get world.modules i.who ≡ Some i.importer
-    before i = elim (C.cases_eq i.who _) [
-      | inl e ↦ absurd (none (sym (C.taken_here _ _ i.who e) ∙ i.there))
-      | inr f ↦ sym (taken_other _ _ i.who f) ∙ i.there
-    ]
-      where
-        none : ◌≡◌ {A = C.Option Named} None (Some i.importer) → ⊥
-        none e = cc
-
--- two go in either order
-swapped : (world : LoadingWorld) (a b : ℕ) (m n : Module) → gone_with (gone_with world a m) b n ≡ gone_with (gone_with world b n) a m
-swapped world a b m n = λ i. record world {
-  handles = record world.handles {
-    heap = record world.handles.heap {
-      objects = retained_swapped world.handles.heap.objects in_m in_n i;
-      places = retained_swapped world.handles.heap.places in_m in_n i;
-      order = C.filter_swapped (λ q. not (in_n q)) (λ q. not (in_m q)) world.handles.heap.order i;
-    };
-    attributes = retained_swapped world.handles.attributes in_m in_n i;
-  };
-  modules = removed_swapped world.modules a b i;
-}
-  where
-    in_m : ℕ → Bool
-    in_m q = is_member q m.slots
-
-    in_n : ℕ → Bool
-    in_n q = is_member q n.slots
-
--- what is idle may go first
-goes_first : (old : LoadingWorld) (k : ℕ) → Idle old.modules k → (xs : List ℕ) (end : LoadingWorld) → Go old xs end → (rest : List ℕ) × Go (without_module old k) rest end
-goes_first old k idle [] end go = absurd (false≢true (sym (go.0 k) ∙ is_then_idle old.modules k idle))
-goes_first old k idle (x ∷ xs) end go = turn (λ later. goes_first (without_module old x) k later xs end go.1) (C.cases_eq k x)
-  where
-    first : Idle old.modules x
-    first = idle_parts old.modules x go.0
-
-    turn : (Idle (without_module old x).modules k → (rest : List ℕ) × Go (without_module (without_module old x) k) rest end) → (k ≡ x) ⊎ (k ≢ x) → (rest : List ℕ) × Go (without_module old k) rest end
-    turn again (inl e) = (xs, subst (λ h. Go (without_module old h) xs end) (sym e) go.1)
-    turn again (inr d) =
-        let later = subst (λ w. Idle w.modules k) (sym (went old x first.idle first.loaded)) (stays_idle old x k first.idle d idle) in
-        let rest = again later in
-        let sooner = stays_idle old k x idle.idle (λ e. d (sym e)) first in
-        let same = both_ways later sooner in (
-          x ∷ rest.0,
-          (
-            subst (λ w. C.is_idle w.modules x ≡ true) (sym (went old k idle.idle idle.loaded)) (is_then_idle (gone_with old k idle.idle).modules x sooner),
-            subst (λ w. Go w rest.0 end) same rest.1,
-          ),
-        )
-      where
-        both_ways : Idle (without_module old x).modules k → Idle (gone_with old k idle.idle).modules x → without_module (without_module old x) k ≡ without_module (without_module old k) x
-        both_ways later sooner =
-            ap (λ w. without_module w k) (went old x first.idle first.loaded)
-            ∙ went (gone_with old x first.idle) k idle.idle (taken_other old.modules x k d ∙ idle.loaded)
-            ∙ swapped old x k first.idle idle.idle
-            ∙ sym (ap (λ w. without_module w x) (went old k idle.idle idle.loaded) ∙ went (gone_with old k idle.idle) x first.idle (taken_other old.modules k x (λ e. d (sym e)) ∙ first.loaded))
-
-pub one_end_law : C.OneEndLaw
-one_end_law old a b [] [] go other = go.1 ∙ sym other.1
-one_end_law old a b (x ∷ xs) [] go other = absurd (false≢true (sym (other.0 x) ∙ go.0))
-one_end_law old a b xs (y ∷ ys) go other =
-    let rest = goes_first old y (idle_parts _ y other.0) xs a go in
-    one_end_law (without_module old y) a b rest.0 ys rest.1 other.1

@@ -4,7 +4,7 @@ use proofs.Common as C
 use proofs.CodeSteps as M
 use proofs.Common.{ℕ, ◌+◌, Some, None, sym, subst, LoadingWorld, Fills, named, fills, left, IsOfFiles}
 use proofs.Stepping.{Parts, nothing_asked, family, with_count}
-use proofs.{ClosureFacts.IsClosure, Answered.loaded_by, Answered.told_answers, RefusedLoad.undone_discards, KeptBytes.kept_bytes, KeptCode.code_kept, KeptCode.fetched_code, CallsKept.handles_code, CallsKept.resizes_code, CodeLoads.loaded_code}
+use proofs.{ClosureFacts.IsClosure, Answered.loaded_by, RefusedLoad.undone_discards, KeptBytes.kept_bytes, KeptCode.code_kept, KeptCode.fetched_code, CallsKept.handles_code, CallsKept.resizes_code, CodeLoads.loaded_code}
 use Rattle.w16_loading.specs.Answers.{Answers, FetchesFrom, GivesFrom, LoadsFrom, told}
 
 module _ (honest : Type 0) (truly : honest) (format : C.Format) (old : LoadingWorld) (is : C.IsLoadingWorld old) (good : IsOfFiles format old) (before after : ℕ) where
@@ -33,7 +33,7 @@ module _ (honest : Type 0) (truly : honest) (format : C.Format) (old : LoadingWo
     writes = λ selector offset slice world ours here. code_kept format world _ (M.write_keeps format selector offset slice world) here;
     fetched = λ slot fault next f. code_kept format old next (fetched_code format is.handles.heap (M.world_fetches format truly before after old is slot) f) good;
     built = λ name handle none free. code_kept format old _ (M.built_in_code format old handle name) good;
-    loaded = λ b file answer new f. loaded_by answers (told_answers honest format old.files before after) old (λ answer. Good) (λ answer. good) b file answer new
+    loaded = λ b file answer new f. loaded_by answers old (λ answer. Good) (λ answer. good) b file answer new
         (λ handle m there few. code_kept format old (C.after_use old handle m) (M.other_uses format old handle m (m.uses + 1) there) good) (λ closure facts. fulfilled new closure facts answer) f;
     freed = λ handle answer new f. M.by_free format old new handle answer f good;
     counted = λ slot load count there some few. code_kept format old (with_count old slot load count) (M.loads_kept format old (with_count old slot load count).loads) good;

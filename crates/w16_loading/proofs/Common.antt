@@ -8,7 +8,7 @@ pub use Rattle.std.proofs.lemmas.Slice.Zip.{AllZip-left}
 pub use Rattle.std.specs.FinMap.{get-retain_keys, nat_cmp-IsAntisymmetric, same_map}
 pub use Rattle.std.specs.List.{AllZip, list_all, position_or_len}
 pub use Rattle.std.specs.Option.{option_or}
-pub use Rattle.w16_loading.specs.Answers.{Answers, ClosesFrom, Ending, FetchesFrom, GivesFrom, GivesRead, HasTables, IsOwnedSize, LoadsFileFrom, LoadsFrom, ReadsFile, RefusesFile, StepFrom, StepOver, follow, said_by, told}
+pub use Rattle.w16_loading.specs.Answers.{Answers, ClosesFrom, FetchesFrom, GivesFrom, HasTables, IsOwnedSize, LoadsFrom, ReadsFile, follow, said_by, told}
 pub use Rattle.w16_loading.specs.Bystanders.{IsFreedResource, IsReleased, IsStepAbout, IsUnloaded, IsUnused, MayGo, StepBystandersLaw, StepPinnedLaw, call_of, step_may_move_own}
 pub use Rattle.w16_loading.specs.Closure.{Around, Closure, Found, Reading, Referent, are_sound, around, begun, dll, meant, with_bound, with_found}
 pub use Rattle.w16_loading.specs.Closing.{Closes, after, followed, reading}
@@ -18,18 +18,18 @@ pub use Rattle.w16_loading.specs.Families.{AddsBuiltIn, FamilyStep, FarStep, Giv
 pub use Rattle.w16_loading.specs.Families.LoadingCommand.{OfFar, OfHandles, OfModules, OfResizes, OfResources}
 pub use Rattle.w16_loading.specs.Families.ModuleCommand.{Builtin, FreeLibrary, FreeModule, GetModuleHandle, GetModuleUsage, GetProcAddress, LoadLibrary, LoadModule}
 pub use Rattle.w16_loading.specs.Families.ResourceCommand.{FindResource, FreeResource, LoadResource, LockResource, SizeofResource}
-pub use Rattle.w16_loading.specs.Fetch.{Accesses, Fetching, IsImage, far_read, far_write, gives, is_not_present, needs_fetch, read_of, reply_of_far, resource_bytes, segment_bytes}
-pub use Rattle.w16_loading.specs.Fewest.{FillsFewest, RequestsFewestLaw}
+pub use Rattle.w16_loading.specs.Fetch.{Accesses, Fetching, IsImage, far_read, far_write, gives, needs_fetch, read_of, reply_of_far, resource_bytes, segment_bytes}
+pub use Rattle.w16_loading.specs.Fewest.{RequestsFewestLaw}
 pub use Rattle.w16_loading.specs.File.{Far, Format, IsModuleFile, IsSegmentData, ModuleFile, Resource, Saying, Segment, SegmentData, Tables, Target, numbered, targets_of}
 pub use Rattle.w16_loading.specs.File.Entry.{InSegment}
 pub use Rattle.w16_loading.specs.File.Target.{Import, ImportName, Internal, InternalEntry, System}
 pub use Rattle.w16_loading.specs.Fill.{Failure, Filling, Fills, Giving, InTurn, asked_of, is_of_read}
 pub use Rattle.w16_loading.specs.Free.{Frees, Go, is_left_over, used_less, without_module, without_orphans}
-pub use Rattle.w16_loading.specs.Law.{AnyStepLaw, AreModuleFiles, BoundAlikeLaw, BoundOnceLaw, CallsKeepWorldsLaw, ClosureEndsLaw, ClosureFilesLaw, CodeIsItsFiles, CodeLaw, CodeReadsLaw, EarlyRefusalLaw, EmptyLaw, EmptyOfFilesLaw, IsLoadingCommand, is_code}
+pub use Rattle.w16_loading.specs.Law.{AnyStepLaw, BoundAlikeLaw, BoundOnceLaw, CallsKeepWorldsLaw, ClosureEndsLaw, ClosureFilesLaw, CodeIsItsFiles, CodeLaw, CodeReadsLaw, EarlyRefusalLaw, EmptyLaw, EmptyOfFilesLaw, IsLoadingCommand, is_code}
 pub use Rattle.w16_loading.specs.Law.{FetchAgainLaw, FetchFaultsLaw, FetchLaw, FetchRefusedLaw, FillLaw, FillsLaw, IsContent, IsFormat, IsItsFiles, IsLoad, IsLoadingWorld, IsModule, IsObjectOf, IsOfFiles, IsRefusal, KeepsOwner}
 pub use Rattle.w16_loading.specs.Law.{KeepsWorldsLaw, ModulesAreItsFiles, OneClosureLaw, OneEndLaw, OnlyDiscards, OwnersLaw, RefusedLoadLaw, SlotsLaw, TakenBackLaw, UndoneLaw, UsesApartLaw, ValuesLaw}
 pub use Rattle.w16_loading.specs.Law.{without_values}
-pub use Rattle.w16_loading.specs.Load.{Answer, Fulfils, LoadsNew, Refuses, after_use, left, outcome_of, refusal_of, undone, used_again}
+pub use Rattle.w16_loading.specs.Load.{Answer, Fulfils, LoadsNew, Refuses, after_use, left, outcome_of, refusal_of, refused_with, undone, used_again}
 pub use Rattle.w16_loading.specs.Load.Answer.{Says}
 pub use Rattle.w16_loading.specs.Modules.{IsFreeModule, IsResourceOf, IsSegmentOf, Load, LoadingWorld, Lookup, Module, Modules, Named, address_at, address_by_name, address_by_ordinal}
 pub use Rattle.w16_loading.specs.Modules.{address_named, handle_named, imported, importers, importers_among, imports, is_idle, module_at, module_in, name_of, usage, usage_with, with_heap}
@@ -37,6 +37,7 @@ pub use Rattle.w16_loading.specs.Modules.Named.{BuiltIn, Loaded}
 pub use Rattle.w16_loading.specs.Naming.{AreSlots, Choice, Given, IsChoice, all_slots, attributes_of, bound, bound_in, fills, fills_from, fills_of, free_slots, given, given_from, handle_meant, imports_at, named, segments_in, segments_of, unbound, with_modules, with_segment}
 pub use Rattle.w16_loading.specs.Owner.{IsOwnerOf, Owner, OwnerLaw, number_in, owner_of, segment_among}
 pub use Rattle.w16_loading.specs.Owner.Owner.{OfResource, OfSegment, Script}
+pub use Rattle.w16_loading.specs.Refusals.{OrRefused, by_reference, is_of_format, refusal_number}
 pub use Rattle.w16_loading.specs.Release.{heap_without, without_objects}
 pub use Rattle.w16_loading.specs.Replies.{HandleReplies, Reply, ResizeReplies, answer_in}
 pub use Rattle.w16_loading.specs.Replies.Reply.{Dword, Failed, Word}
@@ -44,20 +45,21 @@ pub use Rattle.w16_loading.specs.Resizes.{ResizeCommand, ResizeStep}
 pub use Rattle.w16_loading.specs.Resizes.ResizeCommand.{GlobalDiscard, GlobalReAlloc}
 pub use Rattle.w16_loading.specs.Resource.{AnswersNone, LoadsNewResource, LoadsResource, LocksResource, attributes_for, free_resource, is_too_long, load_of, loaded_again, lock_outcome, locked, resource_at, resource_outcome, slot_of_resource, with_resource}
 pub use Rattle.w16_loading.specs.declared.FetchFault.{FetchFault}
+pub use Rattle.w16_loading.specs.declared.LoadRefusal.{LoadRefusal}
 pub use Rattle.w16_loading.specs.declared.FetchFault.TheVariants.{Damaged, NoRoom, Store}
 pub use Rattle.w16_loading.specs.declared.TheConstants.{FIRST_MODULE, LARGEST_OWNED, MOST_MODULES, MOST_USES}
 pub use Rattle.w16_model.proofs.Accesses.{Reached, reached}
 pub use Rattle.w16_model.proofs.Bystanders.{bystander, kept_or_discarded}
 pub use Rattle.w16_model.proofs.CallLaws.{contents}
 pub use Rattle.w16_model.proofs.CallOutcomes.{call_outcome, outcome}
-pub use Rattle.w16_model.proofs.Common.{All, Allocates, AllocatesFewest, AreHandles, AreNew, AreRuns, Asked, Bool, Call, Calls, FarAnswer, Fill, FinMap, GlobalLock, HandleCommand, Handles, Heap, IfOk, IfSome, IsAbout, IsAllocated, IsCompacted}
-pub use Rattle.w16_model.proofs.Common.{IsCounted, IsDiscarded, IsEntered, IsFreeRun, IsFreeSlot, IsFreed, IsHeap, IsKeptOrDiscarded, IsLocked, IsModified, IsNew, IsNewest, IsOldest, IsResized, IsRun, IsSame, IsSized, IsSlot, IsSomeAnd}
+pub use Rattle.w16_model.proofs.Common.{All, Allocates, AllocatesFewest, AreHandles, AreNew, Asked, Bool, Call, Calls, FarAnswer, Fill, FinMap, GlobalLock, HandleCommand, Handles, Heap, IfOk, IfSome, IsAbout, IsAllocated, IsCompacted}
+pub use Rattle.w16_model.proofs.Common.{IsCounted, IsDiscarded, IsEntered, IsFreeRun, IsFreeSlot, IsFreed, IsHeap, IsKeptOrDiscarded, IsLocked, IsModified, IsNew, IsNewest, IsOldest, IsResized, IsRun, IsSame, IsSized, IsSomeAnd}
 pub use Rattle.w16_model.proofs.Common.{IsTrue, IsUnlocked, IsUnmoved, KeepsContents, KeepsOthers, List, MatchBool, MatchOption, Object, Outcome, Part, ReAllocs, Request, Resized, Settles, StandsStill, Walked, Write, [], absent, after_touch}
 pub use Rattle.w16_model.proofs.Common.{after_write, and_parts, ap, arith, attributes_asked, blocks, bytes_at, cases_Bool, cases_eq, cond, discarded, discards_needed, drop, eligible, entries_sorted, eq-eqb, eqb-true, false, false≢true, far_at}
-pub use Rattle.w16_model.proofs.Common.{far_bytes, far_fault, far_part, far_slot, filter, find, fold, get-empty, get-entries, get_or, global_lock, handle_in, handle_of, if◌then◌else◌, inl, inr, is_fixed, is_in_order, is_member, is_owned}
+pub use Rattle.w16_model.proofs.Common.{far_bytes, far_fault, far_slot, filter, find, fold, get-empty, get-entries, get_or, global_lock, handle_in, handle_of, if◌then◌else◌, inl, inr, is_fixed, is_in_order, is_member, is_owned}
 pub use Rattle.w16_model.proofs.Common.{is_past, is_pinned_object, is_some, length, length-take-le, locks_at, ltb-false, ltb-true, map, nat_cmp, nat_cmp_total, nat_lt, ne_eqb, not, not-true, object_at, offset_in, option_map, owns, part}
 pub use Rattle.w16_model.proofs.Common.{part_of_selector, put_part, range_with_len, refl, refuses_write, replicate, rounded_size, selector_in, selector_of, slice_get, slot_of_handle, slot_of_selector, slots_at, slots_for, stays_for, subst}
-pub use Rattle.w16_model.proofs.Common.{suc, sum_by-cons, sym, take, true, unwrap_or, update, with_newest, with_object, with_ordered, with_run, zero, ℕ, ◌&&◌, ◌++◌, ◌+◌, ◌*◌, ◌-◌, ◌/◌, ◌<◌, ◌==◌, ◌||◌, ◌∙◌, ◌∷◌, ◌≡◌, ◌≢◌, ◌≤◌, ◌⊎◌}
+pub use Rattle.w16_model.proofs.Common.{suc, sum_by-cons, sym, take, true, unwrap_or, update, with_newest, with_object, with_ordered, zero, ℕ, ◌&&◌, ◌++◌, ◌+◌, ◌*◌, ◌-◌, ◌/◌, ◌<◌, ◌==◌, ◌||◌, ◌∙◌, ◌∷◌, ◌≡◌, ◌≢◌, ◌≤◌, ◌⊎◌}
 pub use Rattle.w16_model.proofs.Common.{realloc_options}
 unfoldable pub use Rattle.w16_model.proofs.Common.{repeated}
 pub use Rattle.w16_model.proofs.Discards.{is_member-true, true-is_member}

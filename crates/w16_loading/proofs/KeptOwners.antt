@@ -4,14 +4,14 @@ use proofs.Common as C
 use proofs.Common.{◌≡◌, ◌≢◌, ℕ, inl, inr, ◌-◌, ◌==◌, Bool, true, false, cond, not, List, [], ◌∷◌, Option, Some, None, refl, sym, ap, ◌∙◌, subst, false≢true, part, FarAnswer, Handles, owned_in, Answers, Fills, told, Frees, Go, left, LoadingWorld, given, named, without_objects}
 use proofs.Undone.{same_owned, chosen, retained}
 use proofs.Stepping.{Parts, family, nothing_asked}
-use proofs.Answered.{AreAnswers, loaded_by, told_answers}
+use proofs.Answered.{loaded_by}
 use proofs.{Named.free_slot, CallsKept.handles_owners, CallsKept.resizes_owners}
 use Rattle.std.specs.FinMap as finmap
 use Rattle.w16_model.specs.declared.FarFault.TheVariants as far
 use Rattle.w16_model.specs.Far as far_access
 use Rattle.w16_loading.proofs.OwnedKept as kept
 
-module _ (answers : Answers) (are : AreAnswers answers) (old : LoadingWorld) (is : C.IsLoadingWorld old) (q : ℕ) (there : C.is_some (C.object_at old.handles.heap q) ≡ true) where
+module _ (answers : Answers) (old : LoadingWorld) (is : C.IsLoadingWorld old) (q : ℕ) (there : C.is_some (C.object_at old.handles.heap q) ≡ true) where
   abbrev Kept : LoadingWorld → Type 0
   Kept world = C.KeepsOwner old.handles world.handles q
 
@@ -94,7 +94,7 @@ module _ (answers : Answers) (are : AreAnswers answers) (old : LoadingWorld) (is
     writes = written;
     fetched = λ slot fault next f. subst Kept (sym f.rest) (inl refl);
     built = λ name handle none free. inl refl;
-    loaded = λ b file answer new f. loaded_by answers are old (λ answer. Kept) (λ answer. inl refl) b file answer new (λ handle m here few. inl refl) (λ closure facts. fulfilled closure answer new) f;
+    loaded = λ b file answer new f. loaded_by answers old (λ answer. Kept) (λ answer. inl refl) b file answer new (λ handle m here few. inl refl) (λ closure facts. fulfilled closure answer new) f;
     freed = freed;
     counted = λ slot load count here some few. inl refl;
     made = λ slot handle place r fault next free at none f. subst Kept (sym f.rest) (inl (ap owned_in (C.inserted_other old.handles.attributes slot (C.attributes_for r) q (not_free slot free))));
@@ -106,4 +106,4 @@ pub owners_law : (honest : Type 0) → C.OwnersLaw honest
 owners_law honest format old new command reply is step slot there =
     let answers = told honest format old.files old.failures new.failures in
     family (C.FetchesFrom Fills _) (C.LoadsFrom Fills answers) (λ slice. Unit {0}) old (λ w. C.KeepsOwner old.handles w.handles slot)
-    (parts _ (told_answers _ format _ _ _) old is slot there) (record new { failures = old.failures }) reply command (nothing_asked _) step.step
+    (parts _ old is slot there) (record new { failures = old.failures }) reply command (nothing_asked _) step.step

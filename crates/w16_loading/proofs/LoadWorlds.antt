@@ -11,7 +11,7 @@ use proofs.Named.{AreApart, given_slots_apart, named_handles, free_slot}
 use proofs.Given.{given_found, member_place, place_member, put_named, put_here, loaded_is}
 use proofs.Worlds.{IsNumber, AreNamesApart, HasOwner, same_module, is_used, is_load, owner_stays, extends}
 use proofs.ModuleWorlds.{importers_stay, still_used, not_named}
-use proofs.{Importers.HasImporter, Importers.of_importer, KeptWorlds.IsOwned, FetchWorlds.filled_owned, ClosureFacts.IsClosure, Answered.AreAnswers, Owners.object_there}
+use proofs.{Importers.HasImporter, Importers.of_importer, KeptWorlds.IsOwned, FetchWorlds.filled_owned, ClosureFacts.IsClosure, Answered.HoldFiles, Owners.object_there}
 use Rattle.std.specs.FinMap as finmap
 
 -- What is filled has its size, and all else what it had.
@@ -43,7 +43,7 @@ one_segment_of (z ∷ xs) apart x y (inr m) (inl f) e = absurd (Each-at (λ k. z
 one_segment_of (z ∷ xs) apart x y (inr m) (inr n) e = one_segment_of xs apart.1 x y m n e
 
 -- The world.
-module _ (answers : C.Answers) (are : AreAnswers answers) (old : LoadingWorld) (is : C.IsLoadingWorld old) (closure : C.Closure) (choice : C.Choice) (good : C.IsChoice old closure.found choice) (facts : IsClosure answers (C.around old).named closure)
+module _ (answers : C.Answers) (are : HoldFiles answers) (old : LoadingWorld) (is : C.IsLoadingWorld old) (closure : C.Closure) (choice : C.Choice) (good : C.IsChoice old closure.found choice) (facts : IsClosure answers (C.around old).named closure)
     (heap : Heap) (filled : C.InTurn (C.GivesFrom Fills answers) (named old closure choice).handles.heap (fills old closure choice) None heap) where
   abbrev gs : List Given
   gs = given closure choice
@@ -71,7 +71,7 @@ module _ (answers : C.Answers) (are : AreAnswers answers) (old : LoadingWorld) (
   small x m =
       let r : (g : Given) × Member g gs × Member x (zip g.slots g.found.read.tables.segments) = M.segment_given gs x m in
       let p : (i : ℕ) × (slice_get (zip r.0.slots r.0.found.read.tables.segments) i ≡ Some x) = member_place (zip r.0.slots r.0.found.read.tables.segments) x r.2 in
-      let file : C.IsModuleFile r.0.found.read = are.holds r.0.found.file r.0.found.read (facts.held r.0.found (given_found 0 closure.found choice.handles choice.slots r.0 r.1)) in
+      let file : C.IsModuleFile r.0.found.read = are r.0.found.file r.0.found.read (facts.held r.0.found (given_found 0 closure.found choice.handles choice.slots r.0 r.1)) in
       of_data (slice_get r.0.found.read.segments p.0) (subst (λ a. C.MatchOption a (Unit {0}) (λ y. IsSomeAnd (slice_get r.0.found.read.segments p.0) (IsSegmentData y))) (M.zip_place r.0.slots r.0.found.read.tables.segments p.0 x p.1).1
       (C.AllZip-left IsSegmentData r.0.found.read.tables.segments r.0.found.read.segments file.segments p.0))
     where
@@ -100,7 +100,7 @@ module _ (answers : C.Answers) (are : AreAnswers answers) (old : LoadingWorld) (
   sized x m =
       let r : (g : Given) × Member g gs × M.IsFilledBy module_of g x = M.filled_by module_of gs x m in
       let f : M.IsFilledBy module_of r.0 x = r.2 in
-      let file : C.IsModuleFile r.0.found.read = are.holds r.0.found.file r.0.found.read (facts.held r.0.found (given_found 0 closure.found choice.handles choice.slots r.0 r.1)) in
+      let file : C.IsModuleFile r.0.found.read = are r.0.found.file r.0.found.read (facts.held r.0.found (given_found 0 closure.found choice.handles choice.slots r.0 r.1)) in
       let both : IsSomeAnd (slice_get r.0.found.read.segments f.place) (IsSegmentData f.segment) = subst (λ p. C.MatchOption p (Unit {0}) (λ y. IsSomeAnd (slice_get r.0.found.read.segments f.place) (IsSegmentData y))) f.segment_at
       (C.AllZip-left IsSegmentData r.0.found.read.tables.segments r.0.found.read.segments file.segments f.place) in
       let is_data : IsSegmentData f.segment f.its_data = subst (λ p. IsSomeAnd p (IsSegmentData f.segment)) f.data_at both in

@@ -1,18 +1,18 @@
 -- Steps over an honest store are steps over any, and the requests of each discard as few objects as they can.
 use Rattle.w16_loading.proofs
 use proofs.Common as C
-use proofs.Common.{◌≡◌, ℕ, zero, suc, inl, inr, Bool, List, [], Option, Some, None, MatchResult, Result, Ok, Err, Heap, FetchFault, Store, LoadingWorld, Fills, Closure, Found, begun, dll, meant, Refused, Meant, Read, There, New, Answer, LoadingCommand, Reply, ◌⊎◌, true, false, named}
+use proofs.Common.{◌≡◌, ℕ, zero, suc, inl, inr, Bool, List, [], Option, Some, None, MatchResult, LoadRefusal, OrRefused, Ok, Err, Heap, FetchFault, Store, LoadingWorld, Fills, Closure, Found, begun, dll, meant, Refused, Meant, Read, There, New, Answer, LoadingCommand, Reply, ◌⊎◌, true, false, named}
 use proofs.{Fillings.any_kept, Fillings.one_heap, Cases.IsLoadable, Cases.option_as, Fewest.fill_fewest, Named.named_heap, ResourceWorlds.made_world, Answered.fulfils_as, Answered.turned}
 use Rattle.w16_loading.specs.Answers.{Answers, ClosesFrom, Ending, FetchesFrom, GivesFrom, GivesRead, LoadsFileFrom, LoadsFrom, ReadsFile, StepOver, follow, told, StepFrom}
 use Rattle.w16_loading.specs.Fewest.{FillsFewest, RequestsFewest}
 
-result_as : (E : ℕ → Type 0) {X Y : Closure → Type 0} (r : Result Closure ℕ) → ((c : Closure) → X c → Y c) → MatchResult r X E → MatchResult r Y E
+result_as : (E : LoadRefusal → Type 0) {X Y : Closure → Type 0} (r : OrRefused Closure) → ((c : Closure) → X c → Y c) → MatchResult r X E → MatchResult r Y E
 result_as E (Ok c) go f = go c f
-result_as E (Err number) go f = f
+result_as E (Err refusal) go f = f
 
 -- each answer of one is an answer of the other
 record IsWithin (a b : Answers) : Type 0 where
-  pub says : (name : List ℕ) (said : Result C.Tables ℕ) → a.says name said → b.says name said
+  pub says : (name : List ℕ) (said : OrRefused C.Tables) → a.says name said → b.says name said
   pub sound : (name : List ℕ) (t : C.Tables) (sound : Bool) → a.sound name t sound → b.sound name t sound
   pub holds : (name : List ℕ) (read : C.ModuleFile) → a.holds name read → b.holds name read
   pub again : (held read : List ℕ) → a.again held read → b.again held read
@@ -21,20 +21,20 @@ record IsWithin (a b : Answers) : Type 0 where
 
 module _ (a b : Answers) (within : IsWithin a b) where
   reads_as : (x : C.Around) (found : List Found) (name : List ℕ) (r : C.Reading) → ReadsFile a x found name r → ReadsFile b x found name r
-  reads_as x found name (Refused answer) (inl says) = inl (within.says name (Err answer) says)
-  reads_as x found name (Refused answer) (inr (t, says, none, inl h)) = inr (t, within.says name (Ok t) says, none, inl (within.sound name t false h.0, h.1))
-  reads_as x found name (Refused answer) (inr (t, says, none, inr h)) = inr (t, within.says name (Ok t) says, none, inr (within.sound name t true h.0, h.1, h.2))
+  reads_as x found name (Refused refusal) (inl says) = inl (within.says name (Err refusal) says)
+  reads_as x found name (Refused refusal) (inr (t, says, none, inl h)) = inr (t, within.says name (Ok t) says, none, inl (within.sound name t false h.0, h.1))
+  reads_as x found name (Refused refusal) (inr (t, says, none, inr h)) = inr (t, within.says name (Ok t) says, none, inr (within.sound name t true h.0, h.1, h.2))
   reads_as x found name (Meant referent) (t, says, e) = (t, within.says name (Ok t) says, e)
   reads_as x found name (Read read) (says, none, sound, held, few) = (within.says name (Ok read.tables) says, none, within.sound name read.tables true sound, within.holds name read held, few)
 
-  closes_as : (x : C.Around) (n : ℕ) (closure : Closure) (outcome : Result Closure ℕ) → ClosesFrom a x n closure outcome → ClosesFrom b x n closure outcome
+  closes_as : (x : C.Around) (n : ℕ) (closure : Closure) (outcome : OrRefused Closure) → ClosesFrom a x n closure outcome → ClosesFrom b x n closure outcome
   closes_as x zero closure outcome f = f
   closes_as x (suc n) closure outcome (place, name, rest, e, more) = (
     place,
     name,
     rest,
     e,
-    option_as (meant x closure.found name) (λ f. (f.0, reads_as x closure.found (dll name) f.0 f.1, result_as (λ number. outcome ≡ Err number) (follow (record closure { pending = rest }) place name f.0) (λ c. closes_as x n c outcome) f.2))
+    option_as (meant x closure.found name) (λ f. (f.0, reads_as x closure.found (dll name) f.0 f.1, result_as (λ refusal. outcome ≡ Err refusal) (follow (record closure { pending = rest }) place name f.0) (λ c. closes_as x n c outcome) f.2))
         (λ referent e. closes_as x n (C.with_bound (record closure { pending = rest }) place referent) outcome) more,
   )
 
@@ -47,14 +47,14 @@ module _ (a b : Answers) (within : IsWithin a b) where
       Ends : Ending → Answers → Closure → Type 0
       Ends ends answers closure = C.LoadsNew (GivesFrom ends answers) old closure answer new ⊎ ((place : ℕ) × (fault : FetchFault) × answers.fails fault × (answer ≡ C.refusal_of place fault) × (new ≡ old))
 
-      ended : (outcome : Result Closure ℕ) → MatchResult outcome (Ends E a) (λ number. C.Refuses old number answer new) → MatchResult outcome (Ends F b) (λ number. C.Refuses old number answer new)
+      ended : (outcome : OrRefused Closure) → MatchResult outcome (Ends E a) (λ refusal. C.Refuses old refusal answer new) → MatchResult outcome (Ends F b) (λ refusal. C.Refuses old refusal answer new)
       ended (Ok closure) (inl (inl h)) = inl (inl h)
       ended (Ok closure) (inl (inr h)) = inl (inr (fulfil closure answer new h))
       ended (Ok closure) (inr (place, fault, may, says, same)) = inr (place, fault, within.fails fault may, says, same)
-      ended (Err number) h = h
+      ended (Err refusal) h = h
 
       turn : (r : C.Reading) → LoadsFileFrom E a load old file r answer new → LoadsFileFrom F b load old file r answer new
-      turn (Refused number) h = h
+      turn (Refused refusal) h = h
       turn (Meant (There handle)) h = h
       turn (Meant (New place)) h = h
       turn (Read read) (count, outcome, closes, h) = (count, outcome, closes_as (C.around old) count (begun file read) outcome closes, ended outcome h)

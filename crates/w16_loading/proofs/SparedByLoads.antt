@@ -5,7 +5,7 @@ use proofs.Common.{◌≡◌, ◌≢◌, ℕ, inl, inr, Bool, true, false, cond,
 use proofs.Common.{Word, with_resource}
 use proofs.Spared.{IsSpared, left_alone, same_spared, spared_then, spared_without, filled_spared, fetch_spares}
 use proofs.Undone.{IsNamed, chosen, fold_named}
-use proofs.{Fillings.any_do, Given.filled_chosen, Named.free_slot, Named.named_heap, Cases.resource_cases, Answered.AreAnswers, Answered.loaded_by}
+use proofs.{Fillings.any_do, Given.filled_chosen, Named.free_slot, Named.named_heap, Cases.resource_cases, Answered.loaded_by}
 use Rattle.std.specs.FinMap as finmap
 use Rattle.w16_loading.specs.declared.FetchFault.TheVariants as faults
 
@@ -52,8 +52,8 @@ module _ (answers : C.Answers) (old : LoadingWorld) (is : C.IsLoadingWorld old) 
       turn None filled = load_spared closure f.choice f.is_choice None f.heap filled
       turn (Some failure) filled = undone_spared closure f.choice f.is_choice (Some failure) f.heap filled
 
-  pub modules_loaded : AreAnswers answers → (b : Bool) (file : List ℕ) (answer : C.Answer) (new : LoadingWorld) → C.LoadsFrom Fills answers b old file answer new → Spared new
-  modules_loaded are b file answer new = loaded_by answers are old (λ answer. Spared) (λ answer. same_spared old.handles.heap q) b file answer new (λ handle m here few. same_spared old.handles.heap q) (λ closure facts. fulfilled closure answer new)
+  pub modules_loaded : (b : Bool) (file : List ℕ) (answer : C.Answer) (new : LoadingWorld) → C.LoadsFrom Fills answers b old file answer new → Spared new
+  modules_loaded b file answer new = loaded_by answers old (λ answer. Spared) (λ answer. same_spared old.handles.heap q) b file answer new (λ handle m here few. same_spared old.handles.heap q) (λ closure facts. fulfilled closure answer new)
 
   -- Resources.
 

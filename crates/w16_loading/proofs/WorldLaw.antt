@@ -6,7 +6,7 @@ use proofs.KeptWorlds.{kept_left, left_owned, world_stays, recounted}
 use proofs.FarWorlds.{read_world, write_world}
 use proofs.ModuleWorlds.{used_world, built_world}
 use proofs.ResourceWorlds.{locked_world, counted_world, made_world, last_world}
-use proofs.Answered.{AreAnswers, loaded_by, told_answers}
+use proofs.Answered.{HoldFiles, loaded_by}
 use proofs.Stepping.{Parts, Writes, family}
 use proofs.{Fillings.lost, Fillings.kept_sized, RefusedLoad.undone_discards, CallsKept.handles_world, CallsKept.resizes_world, FetchWorlds.fetched_world, FreeWorlds.free_world, ClosureFacts.IsClosure, LoadWorlds.loaded_world, Owners.object_there}
 
@@ -17,7 +17,7 @@ discards_world old is heap d = world_stays old is (record old.handles { heap = h
     (λ q. kept_sized old.handles.heap heap q _ (d.objects q) (is.handles.sized q))) (λ q. refl)
     (λ q kind size code h. left_owned old.handles.heap heap q kind size (kept_left old.handles.heap heap q (object_there old q kind size code h) (d.objects q)) h.object)
 
-module _ (answers : Answers) (are : AreAnswers answers) (old : LoadingWorld) (is : IsLoadingWorld old) where
+module _ (answers : Answers) (are : HoldFiles answers) (old : LoadingWorld) (is : IsLoadingWorld old) where
   fulfilled : (closure : C.Closure) → IsClosure answers (C.around old).named closure → (answer : C.Answer) (new : LoadingWorld) → C.Fulfils (C.GivesFrom Fills answers) old closure answer new → IsLoadingWorld new
   fulfilled closure facts answer new f = subst IsLoadingWorld (sym f.after) (turn f.failure f.filled)
     where
@@ -34,7 +34,7 @@ module _ (answers : Answers) (are : AreAnswers answers) (old : LoadingWorld) (is
     writes = λ selector offset slice world ours here. write_world selector offset slice ours world here;
     fetched = λ slot fault next f. fetched_world is f;
     built = λ name handle none free. built_world old is handle name free none;
-    loaded = λ b file answer new f. loaded_by answers are old (λ answer. IsLoadingWorld) (λ answer. is) b file answer new (used_world old is) (λ closure facts. fulfilled closure facts answer new) f;
+    loaded = λ b file answer new f. loaded_by answers old (λ answer. IsLoadingWorld) (λ answer. is) b file answer new (used_world old is) (λ closure facts. fulfilled closure facts answer new) f;
     freed = λ handle answer new f. free_world old new is handle answer f;
     counted = λ slot load count there some few. counted_world old is slot load there count some few;
     made = λ slot handle place r fault next free at none f. fetched_world (made_world old is slot free handle place r at.0 at.1 none) f;
@@ -51,4 +51,4 @@ pub keeps_worlds_law : (honest : Type 0) → C.KeepsWorldsLaw honest
 keeps_worlds_law honest format old new command reply is known step =
     let answers = told honest format old.files old.failures new.failures in
     recounted (record new { failures = old.failures }) (family (C.FetchesFrom Fills _) (C.LoadsFrom Fills answers) (λ slice. All (λ b. b < 256) slice) old IsLoadingWorld
-    (parts _ (told_answers _ format _ _ _) old is) (record new { failures = old.failures }) reply command (ours _ known) step.step) _
+    (parts _ (λ name read h. h.0) old is) (record new { failures = old.failures }) reply command (ours _ known) step.step) _

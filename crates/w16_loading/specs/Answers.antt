@@ -1,22 +1,24 @@
 -- Steps over what a store answers. Each time that a file is read it may say something else, so each question that a step puts has an answer of its
 -- own, which says no more than what was read for it. A store that is honest answers what its files say.
 use Rattle.w16_loading.specs
-use Rattle.std.specs.Prelude.{◌≡◌, ℕ, zero, suc, ◌<◌, ◌≤◌, ◌⊎◌, Bool, true, false, List, [], ◌∷◌, length, Option, Some, None, IsSomeAnd, MatchOption, Result, Ok, Err, MatchResult, if◌then◌else◌, ◌==◌}
+use Rattle.std.specs.Prelude.{◌≡◌, ℕ, zero, suc, ◌<◌, ◌≤◌, ◌⊎◌, Bool, true, false, List, [], ◌∷◌, length, Option, Some, None, IsSomeAnd, MatchOption, Ok, Err, MatchResult}
 use Rattle.w16_model.specs.{Heap.Heap, Owned.owned_at}
 use Rattle.w16_store.specs.Files.{file_of}
-use specs.declared.FetchFault.TheVariants.{Store, NoRoom}
+use specs.declared.LoadRefusal.TheVariants.{BadFile, NoFile, NoRoom}
 use specs.File.{Saying, Format, ModuleFile, IsModuleFile, Tables}
 use specs.Closure.{Around, Closure, Found, Reading, are_sound, around, begun, dll, meant, with_bound, with_found}
 use specs.Closure.Referent.{There, New}
 use specs.Closure.Reading.{Refused, Meant, Read}
 use specs.Load.{Answer, LoadsNew, Refuses, refusal_of, used_again}
-use specs.{declared.FetchFault.FetchFault, Modules.LoadingWorld, Modules.with_heap, Fill.Giving, Fill.Fills, Fill.is_of_read, Load.Answer.StoreFails, Fetch.IsImage, Fetch.IsRead, Replies.Reply, Families.LoadingCommand, Families.FamilyStep}
+use specs.{declared.FetchFault.FetchFault, declared.LoadRefusal.LoadRefusal, Refusals.OrRefused, Refusals.by_reference, Refusals.is_of_format, Modules.LoadingWorld, Modules.with_heap, Fill.Giving, Fill.Fills, Fill.is_of_read, Load.Answer.StoreFails, Fetch.IsImage, Fetch.IsRead}
+use specs.{Replies.Reply, Families.LoadingCommand, Families.FamilyStep}
 use Rattle.std.specs.FinMap as finmap
+use Rattle.w16_loading.specs.declared.FetchFault.TheVariants as faults
 
 -- Which answers each question may get.
 pub record Answers : Type 1 where
-  -- the file of a name has these tables; or a number refuses it
-  pub says : List ℕ → Result Tables ℕ → Type 0
+  -- the file of a name has these tables; or why it is refused
+  pub says : List ℕ → OrRefused Tables → Type 0
   -- its relocations are sound, or not
   pub sound : List ℕ → Tables → Bool → Type 0
   -- a new module is of this file: what its records lead to, and what its segments hold
@@ -37,7 +39,7 @@ Ending = Heap → ℕ → List ℕ → Bool → Heap → Type 0
 -- An object gets bytes of its size that were read for it; or there is no room for as many; or they can't be read, and nothing changes.
 abbrev pub GivesRead : Ending → (MayFail : FetchFault → Type 0) → (IsSized IsRead : List ℕ → Type 0) → Heap → ℕ → Option FetchFault → Heap → Type 0
 GivesRead ends MayFail IsSized IsRead old slot None new = (bytes : List ℕ) × IsSized bytes × IsRead bytes × ends old slot bytes true new
-GivesRead ends MayFail IsSized IsRead old slot (Some NoRoom) new = (bytes : List ℕ) × IsSized bytes × ends old slot bytes false new
+GivesRead ends MayFail IsSized IsRead old slot (Some faults.NoRoom) new = (bytes : List ℕ) × IsSized bytes × ends old slot bytes false new
 GivesRead ends MayFail IsSized IsRead old slot (Some fault) new = MayFail fault × (new ≡ old)
 
 -- as many as its owner says
@@ -57,46 +59,46 @@ GivesFrom ends answers old slot held fault new = GivesRead ends answers.fails (�
 
 -- What a load makes of the file of a name. A name that is there decides before the relocations do, and these before the count of handles.
 abbrev pub ReadsFile : Answers → Around → List Found → List ℕ → Reading → Type 0
-ReadsFile answers a found name (Refused answer) =
-    answers.says name (Err answer)
+ReadsFile answers a found name (Refused refusal) =
+    answers.says name (Err refusal)
     ⊎ ((t : Tables) × answers.says name (Ok t) × (meant a found t.name ≡ None)
-    × ((answers.sound name t false × (answer ≡ 11)) ⊎ (answers.sound name t true × (a.free ≤ length found) × (answer ≡ 0))))
+    × ((answers.sound name t false × (refusal ≡ BadFile)) ⊎ (answers.sound name t true × (a.free ≤ length found) × (refusal ≡ NoRoom))))
 ReadsFile answers a found name (Meant referent) = (t : Tables) × answers.says name (Ok t) × (meant a found t.name ≡ Some referent)
 ReadsFile answers a found name (Read read) =
     answers.says name (Ok read.tables) × (meant a found read.tables.name ≡ None) × answers.sound name read.tables true × answers.holds name read × (length found < a.free)
 
--- The closure that a reference leaves which nothing there means; a file that is refused gives 20, want of a handle 0.
-abbrev pub follow : Closure → ℕ → List ℕ → Reading → Result Closure ℕ
-follow closure place name (Refused answer) = Err (if answer == 0 then 0 else 20)
+-- The closure that a reference leaves which nothing there means.
+abbrev pub follow : Closure → ℕ → List ℕ → Reading → OrRefused Closure
+follow closure place name (Refused refusal) = Err (by_reference refusal)
 follow closure place name (Meant referent) = Ok (with_bound closure place referent)
 follow closure place name (Read read) = Ok (with_bound (with_found closure (dll name) read) place (New (length closure.found)))
 
 -- That many references are followed, each by what is there or by what its file says then, and none is left; or the last is refused.
-abbrev pub ClosesFrom : Answers → Around → ℕ → Closure → Result Closure ℕ → Type 0
+abbrev pub ClosesFrom : Answers → Around → ℕ → Closure → OrRefused Closure → Type 0
 ClosesFrom answers a zero closure outcome = (closure.pending ≡ []) × (outcome ≡ Ok closure)
 ClosesFrom answers a (suc n) closure outcome =
     (place : ℕ) × (name : List ℕ) × (rest : List (ℕ × List ℕ)) × (closure.pending ≡ (place, name) ∷ rest)
     × MatchOption (meant a closure.found name)
     ((r : Reading) × ReadsFile answers a closure.found (dll name) r
-    × MatchResult (follow (record closure { pending = rest }) place name r) (λ next. ClosesFrom answers a n next outcome) (λ number. outcome ≡ Err number))
+    × MatchResult (follow (record closure { pending = rest }) place name r) (λ next. ClosesFrom answers a n next outcome) (λ refusal. outcome ≡ Err refusal))
     (λ referent. ClosesFrom answers a n (with_bound (record closure { pending = rest }) place referent) outcome)
 
 -- A load by the file that it opens. When the records of new modules are bound, one of their files may read otherwise, or not at all: then it is
 -- the same world.
 abbrev pub LoadsFileFrom : Ending → Answers → Bool → LoadingWorld → List ℕ → Reading → Answer → LoadingWorld → Type 0
-LoadsFileFrom ends answers is_load_module old file (Refused number) answer new = Refuses old number answer new
+LoadsFileFrom ends answers is_load_module old file (Refused refusal) answer new = Refuses old refusal answer new
 LoadsFileFrom ends answers is_load_module old file (Meant (There handle)) answer new = (answer, new) ≡ used_again is_load_module old handle (finmap.get old.modules handle)
 LoadsFileFrom ends answers is_load_module old file (Meant (New place)) answer new = ⊥
 LoadsFileFrom ends answers is_load_module old file (Read read) answer new =
-    (count : ℕ) × (outcome : Result Closure ℕ) × ClosesFrom answers (around old) count (begun file read) outcome
+    (count : ℕ) × (outcome : OrRefused Closure) × ClosesFrom answers (around old) count (begun file read) outcome
     × MatchResult outcome
     (λ closure. LoadsNew (GivesFrom ends answers) old closure answer new ⊎ ((place : ℕ) × (fault : FetchFault) × answers.fails fault × (answer ≡ refusal_of place fault) × (new ≡ old)))
-    (λ number. Refuses old number answer new)
+    (λ refusal. Refuses old refusal answer new)
 
 -- the store may fail while files are read
 abbrev pub LoadsFrom : Ending → Answers → Bool → LoadingWorld → List ℕ → Answer → LoadingWorld → Type 0
 LoadsFrom ends answers is_load_module old file answer new =
-    (answers.fails Store × (answer ≡ StoreFails) × (new ≡ old))
+    (answers.fails faults.Store × (answer ≡ StoreFails) × (new ≡ old))
     ⊎ ((r : Reading) × ReadsFile answers (around old) [] file r × LoadsFileFrom ends answers is_load_module old file r answer new)
 
 -- One step by the answers that it got. What a family's definition says is of worlds with one count of failures.
@@ -107,31 +109,31 @@ pub record StepFrom (ends : Ending) (answers : Answers) (old : LoadingWorld) (co
 
 -- The answers of a store.
 
--- what a file says, or the number that refuses it
-abbrev pub said_by : Saying → Option (List ℕ) → Result ModuleFile ℕ
-said_by says None = Err 2
+-- what a file says, or why it is refused
+abbrev pub said_by : Saying → Option (List ℕ) → OrRefused ModuleFile
+said_by says None = Err NoFile
 said_by says (Some bytes) = says bytes
 
--- A number that refuses a file: 2 only where no file has the name, whatever the store; or 11 to 14, where it isn't accepted.
-abbrev pub RefusesFile : Option (List ℕ) → ℕ → Type 0
-RefusesFile file number = ((number ≡ 2) × (file ≡ None)) ⊎ ((11 ≤ number) × (number ≤ 14))
+-- Why a file is refused: whatever the store, there is none only where no file has the name; or it isn't accepted.
+abbrev pub RefusesFile : Option (List ℕ) → LoadRefusal → Type 0
+RefusesFile file refusal = ((refusal ≡ NoFile) × (file ≡ None)) ⊎ (is_of_format refusal ≡ true)
 
--- it has these tables, or this number refuses it
-abbrev pub HasTables : Result ModuleFile ℕ → Result Tables ℕ → Type 0
+-- it has these tables, or is refused for this
+abbrev pub HasTables : OrRefused ModuleFile → OrRefused Tables → Type 0
 HasTables (Ok read) (Ok t) = read.tables ≡ t
 HasTables (Err m) (Err n) = m ≡ n
 HasTables other said = ⊥
 
 -- why bytes can't be read: the store's device failed, and the count rose; or, where the store isn't honest, the file isn't what it was
 abbrev pub MayFail : (honest : Type 0) → (before after : ℕ) → FetchFault → Type 0
-MayFail honest before after fault = (is_of_read fault ≡ true) × (fault ≡ Store → before < after) × (honest → fault ≡ Store)
+MayFail honest before after fault = (is_of_read fault ≡ true) × (fault ≡ faults.Store → before < after) × (honest → fault ≡ faults.Store)
 
--- Whatever the store: numbers that refuse files, files of modules, bytes of the right size, relocated as the load bound them. Where it is honest:
+-- Whatever the store: refusals of files, files of modules, bytes of the right size, relocated as the load bound them. Where it is honest:
 -- what its files say.
 abbrev pub told : (honest : Type 0) → Format → (files : List (List ℕ × List ℕ)) → (before after : ℕ) → Answers
 told honest format files before after = record {
   says = λ name said. MatchResult said (λ t. Unit {0}) (RefusesFile (file_of files name)) × (honest → HasTables (said_by format.says (file_of files name)) said);
-  sound = λ name t b. honest → MatchResult (said_by format.says (file_of files name)) (λ read. are_sound read ≡ b) (λ number. ⊥);
+  sound = λ name t b. honest → MatchResult (said_by format.says (file_of files name)) (λ read. are_sound read ≡ b) (λ refusal. ⊥);
   holds = λ name read. IsModuleFile read × (are_sound read ≡ true) × (honest → said_by format.says (file_of files name) ≡ Ok read);
   again = λ held read. honest → read ≡ held;
   gives = λ world slot bytes. IsRead format world slot bytes × (honest → IsImage format world slot bytes);

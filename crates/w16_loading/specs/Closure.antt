@@ -2,7 +2,7 @@
 use Rattle.std.specs.Prelude.{ℕ, Bool, List, [], ◌∷◌, ◌++◌, length, map, codes, position, Option, is_some}
 use Rattle.std.specs.{List.list_all, Option.option_or, Option.option_map}
 use Rattle.w16_store.specs.{Names.is_named, Files.file_of}
-use Rattle.w16_loading.specs.{File.ModuleFile, Modules.LoadingWorld, Modules.handle_named, Modules.free_modules}
+use Rattle.w16_loading.specs.{declared.LoadRefusal.LoadRefusal, File.ModuleFile, Modules.LoadingWorld, Modules.handle_named, Modules.free_modules}
 
 -- a new module: the name of its file, and what that says
 pub record Found : Type 0 where
@@ -34,9 +34,9 @@ pub record Closure : Type 0 where
 abbrev pub meant : Around → List Found → List ℕ → Option Referent
 meant a found name = option_or (option_map There (a.named name)) (option_map New (position (λ f. is_named f.read.tables.name name) found))
 
--- what a load makes of a file: a number, where it is refused; a module or built-in that has its name; or a new module
+-- what a load makes of a file: why it is refused; a module or built-in that has its name; or a new module
 pub data Reading : Type 0 where
-  Refused : (answer : ℕ) → Reading
+  Refused : LoadRefusal → Reading
   Meant : Referent → Reading
   Read : ModuleFile → Reading
 

@@ -47,14 +47,14 @@ Fetching = LoadingWorld → ℕ → Option FetchFault → LoadingWorld → Type 
 
 -- Far access.
 
-abbrev pub with_handles : {A : Type 0} → LoadingWorld → A × Handles → A × LoadingWorld
-with_handles world outcome = (outcome.0, record world { handles = outcome.1 })
+abbrev pub outcome_in : {A : Type 0} → LoadingWorld → A × Handles → A × LoadingWorld
+outcome_in world outcome = (outcome.0, record world { handles = outcome.1 })
 
 abbrev pub far_read : ℕ → ℕ → ℕ → LoadingWorld → FarAnswer × LoadingWorld
-far_read selector offset n world = with_handles world (far_access.far_read world.handles selector offset n)
+far_read selector offset n world = outcome_in world (far_access.far_read world.handles selector offset n)
 
 abbrev pub far_write : ℕ → ℕ → List ℕ → LoadingWorld → FarAnswer × LoadingWorld
-far_write selector offset slice world = with_handles world (far_access.far_write world.handles selector offset slice)
+far_write selector offset slice world = outcome_in world (far_access.far_write world.handles selector offset slice)
 
 abbrev pub is_not_present : FarAnswer → Bool
 is_not_present (FarAnswer.Fault far.NotPresent) = true

@@ -1,8 +1,8 @@
 -- What a module file says, apart from how it says it: what the formats of files and relocations give to a load.
-use Rattle.std.specs.Prelude.{◌≡◌, ℕ, ◌-◌, ◌<◌, ◌≤◌, Bool, false, ◌==◌, if◌then◌else◌, List, [], length, find, All, Option, None, Result, unwrap_or, option_map, slice_get}
+use Rattle.std.specs.Prelude.{◌≡◌, ℕ, ◌-◌, ◌<◌, ◌≤◌, Bool, false, ◌==◌, if◌then◌else◌, List, [], length, find, All, Option, None, unwrap_or, option_map, slice_get}
 use Rattle.std.specs.List.{AllZip}
 use Rattle.w16_model.specs.{declared.Kind.Kind, declared.TheConstants.GRAIN, Heap.IsMultiple}
-use Rattle.w16_loading.specs.declared.TheConstants.{LARGEST_OWNED}
+use Rattle.w16_loading.specs.{Refusals.OrRefused, declared.TheConstants.LARGEST_OWNED}
 use Rattle.w16_store.specs.Names.{is_named}
 use base.Stored.{Gv}
 
@@ -88,9 +88,9 @@ pub record ModuleFile : Type 0 where
 abbrev pub targets_of : SegmentData → List Target
 targets_of s = unwrap_or s.targets []
 
--- What a file says, or the number that a load answers where it isn't accepted: 12, 13 or 14 by its target system, else 11.
+-- what a file says, or why it isn't accepted
 abbrev pub Saying : Type 0
-Saying = List ℕ → Result ModuleFile ℕ
+Saying = List ℕ → OrRefused ModuleFile
 
 -- A format: what files say; the bytes of the object of each resource of a file that is accepted, by its number: those of the file, and zeros
 -- after them (a load doesn't read these); and as many bytes as are asked for of the object of a segment of a module with some tables, by the

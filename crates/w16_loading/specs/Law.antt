@@ -1,6 +1,6 @@
 -- What holds of all files and of every world with modules, and the laws that show the definitions right.
 use Rattle.w16_loading.specs
-use Rattle.std.specs.Prelude.{◌≡◌, ◌≢◌, ℕ, ◌+◌, ◌-◌, ◌<◌, ◌≤◌, ◌⊎◌, Bool, true, false, List, length, All, if◌then◌else◌, Option, Some, None, is_some, IfSome, IsSomeAnd, Result, fold, ◌↔◌, [], MatchResult, IfOk}
+use Rattle.std.specs.Prelude.{◌≡◌, ◌≢◌, ℕ, ◌+◌, ◌-◌, ◌<◌, ◌≤◌, ◌⊎◌, Bool, true, false, List, length, All, if◌then◌else◌, Option, Some, None, is_some, IfSome, IsSomeAnd, fold, ◌↔◌, [], MatchResult, IfOk}
 use Rattle.std.specs.List.{AllZip, AllByRecursion}
 use Rattle.w16_model.specs.Handles.{Handles, slot_of_selector, selector_in, offset_in, IsFreeSlot}
 use Rattle.w16_model.specs.Heap.{Heap, Object, IsHeap, object_at, bytes_at}
@@ -19,7 +19,7 @@ use specs.Families.{LoadingCommand, HandleStep, access_of}
 use specs.Families.LoadingCommand.{OfFar, OfHandles, OfModules, OfResizes, OfResources}
 use specs.Replies.Reply.{Bytes, Done, Fault}
 use specs.Fetch.{read_of, segment_bytes, needs_fetch}
-use specs.{declared.FetchFault.FetchFault, Modules.Named.Loaded, Release.without_objects, Load.Answer, Load.undone, Replies.Reply, Free.Go, Free.Frees, Resource.is_too_long, Resource.resource_at, Closing.Closes}
+use specs.{declared.FetchFault.FetchFault, Refusals.OrRefused, Refusals.is_of_format, Modules.Named.Loaded, Release.without_objects, Load.Answer, Load.undone, Replies.Reply, Free.Go, Free.Frees, Resource.is_too_long, Resource.resource_at, Closing.Closes}
 use Rattle.w16_store.specs.Names.{is_named}
 use Rattle.std.specs.FinMap as finmap
 use Rattle.w16_loading.specs.declared.FetchFault.TheVariants as faults
@@ -28,9 +28,9 @@ use Rattle.w16_model.specs.Far as far
 
 -- Files, and steps in part.
 
--- what a load relies on in all files: those that are accepted, and the numbers of those that aren't
+-- what a load relies on in all files: those that are accepted, and why others aren't
 abbrev pub AreModuleFiles : Saying → Type 0
-AreModuleFiles says = (file : List ℕ) → MatchResult (says file) IsModuleFile (λ answer. (11 ≤ answer) × (answer ≤ 14))
+AreModuleFiles says = (file : List ℕ) → MatchResult (says file) IsModuleFile (λ refusal. is_of_format refusal ≡ true)
 
 -- and a fetch in each resource: bytes, as many as its object has
 abbrev pub IsContent : Resource → List ℕ → Type 0
@@ -189,15 +189,15 @@ BoundOnceLaw honest = (format : Format) (old new : LoadingWorld) (command : Load
 
 -- the files decide which modules a load finds: one outcome
 abbrev pub OneClosureLaw : Type 0
-OneClosureLaw = (says : Saying) (a : Around) (closure : Closure) (x y : Result Closure ℕ) → Closes says a closure x → Closes says a closure y → x ≡ y
+OneClosureLaw = (says : Saying) (a : Around) (closure : Closure) (x y : OrRefused Closure) → Closes says a closure x → Closes says a closure y → x ≡ y
 
 -- and there is one, also where each file asks for another without end
 abbrev pub ClosureEndsLaw : Type 0
-ClosureEndsLaw = (says : Saying) (a : Around) (closure : Closure) → (outcome : Result Closure ℕ) × Closes says a closure outcome
+ClosureEndsLaw = (says : Saying) (a : Around) (closure : Closure) → (outcome : OrRefused Closure) × Closes says a closure outcome
 
 -- It is the one that a load gets from the answers of an honest store.
 abbrev pub ClosureFilesLaw : (honest : Type 0) → Type 0
-ClosureFilesLaw honest = (format : Format) (before after : ℕ) (old : LoadingWorld) (count : ℕ) (closure : Closure) (outcome : Result Closure ℕ) → honest
+ClosureFilesLaw honest = (format : Format) (before after : ℕ) (old : LoadingWorld) (count : ℕ) (closure : Closure) (outcome : OrRefused Closure) → honest
     → ClosesFrom (told honest format old.files before after) (around old) count closure outcome → Closes format.says (around old) closure outcome
 
 -- a load over an honest store that is refused with no handle taken leaves the same world: every number but 0

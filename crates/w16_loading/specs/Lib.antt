@@ -1,6 +1,7 @@
 pub mod Resizes
 pub mod Replies
 pub mod File
+pub mod Refusals
 pub mod Modules
 pub mod Fill
 pub mod Release
@@ -18,4 +19,3 @@ pub mod Owner
 pub mod Bystanders
 pub mod Codes
 pub mod Fewest
-pub mod Effects

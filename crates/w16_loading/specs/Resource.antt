@@ -6,7 +6,7 @@ use specs.declared.TheConstants.{MOST_USES, LARGEST_OWNED}
 use specs.File.{Label, Resource, is_label, numbered}
 use specs.Modules.{LoadingWorld, Load, module_at}
 use specs.Replies.Reply.{Word, Dword, Walked, Failed}
-use specs.{declared.FetchFault.FetchFault, Replies.Reply, Fetch.Fetching, Fetch.with_handles, Release.without_objects}
+use specs.{declared.FetchFault.FetchFault, Replies.Reply, Fetch.Fetching, Fetch.outcome_in, Release.without_objects}
 use Rattle.std.specs.FinMap as finmap
 use Rattle.w16_model.specs.Calls as calls
 use Rattle.w16_loading.specs.declared.FetchFault.TheVariants as faults
@@ -94,7 +94,7 @@ reply_of_call (calls.Answer.Walked count) = Walked count
 
 -- GlobalLock of its handle
 abbrev pub locked : LoadingWorld → ℕ → Reply × LoadingWorld
-locked world handle = let outcome = with_handles world (global_lock world.handles handle) in ((reply_of_call outcome.0), outcome.1)
+locked world handle = let outcome = outcome_in world (global_lock world.handles handle) in ((reply_of_call outcome.0), outcome.1)
 
 abbrev pub lock_outcome : Option FetchFault → ℕ → LoadingWorld → Reply × LoadingWorld
 lock_outcome None handle next = locked next handle

@@ -1,7 +1,8 @@
-//! The meaning of modules: files that are read, loads, fetches, uses and resources, as definitions (`specs/`), and their laws.
+//! The meaning of modules: files that are read, loads, fetches, uses and resources, as definitions (`specs/`). Their laws are in `w16_laws`.
 #![tactic(auto)]
 
-pub mod laws;
+ghost use Rattle.std.specs.Prelude.{◌≡◌};
+ghost use Rattle.w16_loading.specs.Refusals.{refusal_number};
 
 use thiserror::Error;
 
@@ -17,6 +18,36 @@ pub enum FetchFault {
     /// The file reads otherwise than it did when the module was loaded.
     #[error("the module's file isn't what it was at load")]
     Damaged,
+}
+
+/// Why a load is refused.
+#[derive(Debug, Clone, Copy, PartialEq, Eq, Drop)]
+pub enum LoadRefusal {
+    /// No handle, no slot, no room or no use is left.
+    NoRoom = 0,
+    /// There is no such file.
+    NoFile = 2,
+    /// The file isn't accepted, but not for its system; or it reads otherwise than it did.
+    BadFile = 11,
+    /// The file is for OS/2.
+    ForOs2 = 12,
+    /// The file is for DOS 4.
+    ForDos4 = 13,
+    /// The file is for another system.
+    ForOtherSystem = 14,
+    /// The application that `LoadModule` asks for is there.
+    LoadedTwice = 16,
+    /// The file of a reference is refused.
+    BadReference = 20,
+}
+
+impl LoadRefusal {
+    /// What the load answers.
+    pub fn number(self) -> u16
+        ensures { result ≡ refusal_number self }
+    {
+        self as u16
+    }
 }
 
 /// The number of the first module handle; so many may be given.

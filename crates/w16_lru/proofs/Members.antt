@@ -21,7 +21,7 @@ fewer x (y ∷ ids) apart there = turn (y == x) refl (fewer x ids apart.1)
   where
     turn : (t : Bool) → (y == x) ≡ t → (is_member x ids ≡ true → length (without x ids) + 1 ≡ length ids) → length (cond {A = List ℕ} (not t) (y ∷ without x ids) (without x ids)) + 1 ≡ length (y ∷ ids)
     turn true e rest =
-        let none : is_member x ids ≡ false = subst (λ q. is_member q ids ≡ false) (C.eqb-true y x e) (no_member y ids apart.0) in
+        let none = subst (λ q. is_member q ids ≡ false) (C.eqb-true y x e) (no_member y ids apart.0) in
         let same = ap (length {A = ℕ}) (C.without_absent x ids none) in omega arith
     turn false e rest = let less = rest (sym (ap (λ t. t || is_member x ids) e) ∙ there) in omega arith
 

@@ -31,8 +31,8 @@ with_ids uses ids = record uses { ids = ids }
 
 -- what was taken out and is put at an end is at that end
 pub put_back : (old new : Uses) (id : ℕ) (end : End) → new ≡ with_ids old (without id old.ids) → with_ids new (put end id new.ids) ≡ with_ids old (C.at_end end id old.ids)
-put_back old new id Oldest e = ap (λ (u : Uses). with_ids u (put Oldest id u.ids)) e
-put_back old new id Newest e = ap (λ (u : Uses). with_ids u (put Newest id u.ids)) e
+put_back old new id Oldest e = ap (λ u. with_ids u (put Oldest id u.ids)) e
+put_back old new id Newest e = ap (λ u. with_ids u (put Newest id u.ids)) e
 
 -- what the member at an end comes behind
 abbrev pub IsFront : ℕ → List ℕ → ℕ → End → Type 0
@@ -42,21 +42,21 @@ IsFront cap before front Newest = front ≡ get_or before cap front
 -- the items of a table after an exchange
 pub exchanged_after : {Z : Type 0} (table : Vec ℕ Z) (seen new : List ℕ) (p x : ℕ) → seen ≡ table.items → new ≡ swap seen p x → (with_items table new).items ≡ swap table.items p x
 exchanged_after table seen new p x same e =
-    let long : length new ≡ table.len = ap length e ∙ C.length-swap seen p x ∙ ap length same ∙ sym table.ok.0 in
-    C.with_items_is table new long ∙ e ∙ ap (λ (l : List ℕ). swap l p x) same
+    let long = ap length e ∙ C.length-swap seen p x ∙ ap length same ∙ sym table.ok.0 in
+    C.with_items_is table new long ∙ e ∙ ap (λ l. swap l p x) same
 
 pub exchanged_before : {Z : Type 0} (table : Vec ℕ Z) (links seen_links seen new : List ℕ) (p x : ℕ) → seen_links ≡ links → seen ≡ table.items
     → new ≡ swap seen (slice_index seen_links p) (slice_index seen_links x) → (with_items table new).items ≡ swap table.items (slice_index links p) (slice_index links x)
 exchanged_before table links seen_links seen new p x alike same e =
     exchanged_after table seen new (slice_index seen_links p) (slice_index seen_links x) same e
-    ∙ ap (λ (l : List ℕ). swap table.items (slice_index l p) (slice_index l x)) alike
+    ∙ ap (λ l. swap table.items (slice_index l p) (slice_index l x)) alike
 
 -- the items of a table in which a number takes another's place
 pub relinked_items : {Z : Type 0} (table : Vec ℕ Z) (seen new : List ℕ) (from id to : ℕ) → seen ≡ table.items → new ≡ relinked seen from id to → (with_items table new).items ≡ relinked table.items from id to
 relinked_items table seen new from id to same e =
-    let long : length new ≡ table.len = ap length e ∙ length-set (set (set seen to (slice_index seen id)) from to) id id
+    let long = ap length e ∙ length-set (set (set seen to (slice_index seen id)) from to) id id
     ∙ length-set (set seen to (slice_index seen id)) from to ∙ length-set seen to (slice_index seen id) ∙ ap length same ∙ sym table.ok.0 in
-    C.with_items_is table new long ∙ e ∙ ap (λ (l : List ℕ). relinked l from id to) same
+    C.with_items_is table new long ∙ e ∙ ap (λ l. relinked l from id to) same
 
 module _ (cap members : ℕ) (after before : List ℕ) (now : Uses) (ring : IsRing cap after before (ids_of cap after members)) (view : uses_of cap after members ≡ now) where
   ids_are : ids_of cap after members ≡ now.ids

@@ -30,7 +30,7 @@ module _ (ids : List ℕ) (left id : ℕ) (le : left ≤ length ids) (got : Some
 pub all_left : (now uses : Uses) (left : ℕ) (next : Option ℕ) → now ≡ uses → left ≡ length uses.ids → next ≡ slice_get uses.ids 0
     → ((left ≤ length now.ids) × (next ≡ slice_get now.ids (length now.ids - left))) × (drop (length now.ids - left) now.ids ≡ uses.ids)
 all_left now uses left next same all first =
-    let ids : now.ids ≡ uses.ids = ap (λ (u : Uses). u.ids) same in
-    let long : length now.ids ≡ left = ap length ids ∙ sym all in
+    let ids = ap (λ u. u.ids) same in
+    let long = ap length ids ∙ sym all in
     let none : 0 ≡ length now.ids - left = omega arith in
-    ((omega arith, first ∙ ap (λ (qs : List ℕ). slice_get qs 0) (sym ids) ∙ ap (slice_get now.ids) none), ap (λ (i : ℕ). drop i now.ids) (sym none) ∙ ids)
+    ((omega arith, first ∙ ap (λ qs. slice_get qs 0) (sym ids) ∙ ap (slice_get now.ids) none), ap (λ i. drop i now.ids) (sym none) ∙ ids)

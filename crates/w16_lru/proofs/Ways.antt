@@ -7,7 +7,7 @@ pub follow-leads : (after : List ℕ) (from : ℕ) (ids : List ℕ) (end : ℕ) 
 follow-leads after from [] end way = refl
 follow-leads after from (x ∷ ids) end way =
     (λ i. way.0 i ∷ follow (length ids) after (slice_index after (way.0 i)))
-    ∙ ap (λ (l : List ℕ). x ∷ l) (follow-leads after (slice_index after x) ids end way.1)
+    ∙ ap (λ l. x ∷ l) (follow-leads after (slice_index after x) ids end way.1)
 
 pub length-follow : (n : ℕ) (after : List ℕ) (from : ℕ) → length (follow n after from) ≡ n
 length-follow zero after from = refl
@@ -73,7 +73,7 @@ leads-none after from (y ∷ ids) end x self other way = turn (y == x) refl (lea
 -- the first on a way
 pub leads-some : (after : List ℕ) (from : ℕ) (ids : List ℕ) (end : ℕ) → from ≢ end → Leads after from ids end → Some from ≡ slice_get ids 0
 leads-some after from [] end other way = absurd (other way)
-leads-some after from (x ∷ ids) end other way = ap (λ (q : ℕ). Some q) way.0
+leads-some after from (x ∷ ids) end other way = ap (λ q. Some q) way.0
 
 pub leads-no : (after : List ℕ) (from : ℕ) (ids : List ℕ) (end : ℕ) → from ≡ end → Each (λ q. q < end) ids → Leads after from ids end → None ≡ slice_get ids 0
 leads-no after from [] end same below way = refl

@@ -5,12 +5,12 @@ pub use Rattle.std.proofs.lemmas.List.{length-replicate}
 pub use Rattle.w16_loading.proofs.Begun.{empty_of_files_law}
 pub use Rattle.w16_loading.proofs.Bystanders.{bystanders_law, pinned_law}
 pub use Rattle.w16_loading.proofs.CodeLaw.{code_law}
-pub use Rattle.w16_loading.proofs.Common.{Accesses, AddsBuiltIn, All, All-from_Each, AllPairs-from_EachPair, Allocates, AllocatesFewest, AreHandles, AreNew, Asked, Bool, BuiltIn, Builtin, Calls, Dword, Each-at, Each-from_All, Failed, FamilyStep, FarAnswer, FarCommand}
+pub use Rattle.w16_loading.proofs.Common.{Accesses, All, All-from_Each, AllPairs-from_EachPair, Allocates, AllocatesFewest, AreHandles, AreNew, Asked, Bool, BuiltIn, Builtin, Calls, Dword, Each-at, Each-from_All, Failed, FamilyStep, FarAnswer, FarCommand}
 pub use Rattle.w16_loading.proofs.Common.{Fill, FinMap, FindResource, Format, GetModuleHandle, GetModuleUsage, GetProcAddress, GlobalReAlloc, HandleCommand, HandleReplies, Handles, Heap, IfOk, IfSome, IsBlockOf, IsHeap, IsLoadingCommand, IsLoadingWorld}
-pub use Rattle.w16_loading.proofs.Common.{IsNew, IsOfFiles, IsSomeAnd, IsTrue, KeepsContents, KeepsOthers, List, LoadLibrary, LoadModule, LoadResource, LoadingCommand, LoadingWorld, LockResource, MatchBool, MatchOption, Member, ModuleCommand}
+pub use Rattle.w16_loading.proofs.Common.{IsNew, IsOfFiles, IsSomeAnd, KeepsOthers, List, LoadingCommand, LoadingWorld, MatchBool, MatchOption, Member, ModuleCommand}
 pub use Rattle.w16_loading.proofs.Common.{ModuleStep, Object, OfFar, OfHandles, OfModules, OfResizes, OfResources, Reached, Reply, ResizeCommand, ResizeReplies, ResourceCommand, ResourceStep, Settles, SizeofResource, StandsStill, Word, Write, [], absent, address_law}
-pub use Rattle.w16_loading.proofs.Common.{after_touch, after_write, allocation_law, and_parts, answer_in, ap, arith, blocks, built_in, bytes_at, bytes_in, call_outcome, cases_Bool, cases_eq, cond, contents, discarded, discards_needed, eligible, entries_sorted}
-pub use Rattle.w16_loading.proofs.Common.{eq-eqb, eqb-true, false, false≢true, far_at, far_bytes, far_fault, far_read, far_slot, far_write, found_member, get-empty, get-entries, get-retain_keys, get-update_other, get-update_same, get_or, gives}
+pub use Rattle.w16_loading.proofs.Common.{after_touch, after_write, allocation_law, and_parts, answer_in, ap, arith, blocks, bytes_at, bytes_in, call_outcome, cases_Bool, cases_eq, cond, contents, discarded, discards_needed, eligible, entries_sorted}
+pub use Rattle.w16_loading.proofs.Common.{eq-eqb, eqb-true, false, false≢true, far_at, far_bytes, far_fault, far_slot, found_member, get-empty, get-entries, get-retain_keys, get-update_other, get-update_same, get_or, gives}
 pub use Rattle.w16_loading.proofs.Common.{handle_named, inl, inr, inserted_here, inserted_other, is_fixed, is_in_order, is_member, is_pinned_object, is_some, keys_rise, length, length-put_part, ltb-true, member_found, module_at, nat_cmp, nat_cmp-IsAntisymmetric}
 pub use Rattle.w16_loading.proofs.Common.{nat_cmp_total, nat_lt, ne_eqb, needs_fetch, not, object_at, offset_in, option_map, other_handles, others_law, owned_at, part, put_part, reached, refl, refuses_write, replicate, reply_of_far, same_map, selector_in}
 pub use Rattle.w16_loading.proofs.Common.{slot_of_selector, stays_for, subst, suc, sym, take, taken_here, taken_other, true, unwrap_or, with_newest, with_object, with_ordered, written_heap, zero, ℕ, ◌&&◌, ◌+◌, ◌-◌, ◌/◌, ◌<◌, ◌==◌, ◌||◌, ◌∙◌, ◌∷◌, ◌≡◌, ◌≢◌, ◌≤◌}
@@ -26,18 +26,16 @@ pub use Rattle.w16_loading.specs.Modules.{with_handles}
 pub use Rattle.w16_loading.specs.Law.{FarReplies, far_answer_in}
 pub use Rattle.w16_loading.specs.Replies.Reply.{Done}
 pub use Rattle.w16_loading.specs.declared.FetchFault.{FetchFault}
-pub use Rattle.w16_loading.specs.declared.FetchFault.TheVariants.{Store}
-pub use Rattle.w16_machine.specs.Bystanders.{AllSpare, IsLocalAbout, IsLocalSpared, RunSparesLaw, StepSparesLaw}
-pub use Rattle.w16_machine.specs.Fewest.{AreFewest, FewestLaw, IsFewest}
+pub use Rattle.w16_machine.specs.Bystanders.{IsLocalAbout, IsLocalSpared, RunSparesLaw, StepSparesLaw}
+pub use Rattle.w16_machine.specs.Fewest.{FewestLaw, IsFewest}
 pub use Rattle.w16_machine.specs.Law.{AreLocalHeaps, AreNamed, EmptyLaw, FilesLaw, IsCommand, IsLocalIn, IsWorld, IsWorldOfFiles, OnHandles, RunFilesLaw, RunWorldLaw, WorldLaw, empty_world}
 pub use Rattle.w16_machine.specs.Local.{Acts, Becomes, Beginning, IsLocalTable, IsLowestFree, LocalHeap, LocalObject, Stays, beginning, beginning_in, current_heap, has_range, heap_of, id_at}
 pub use Rattle.w16_machine.specs.Local.{id_named, is_name, is_range, left_in, local_in, local_of, name_at, name_of, new_table, object_named, range_in, rounded_down, rounded_up, segment_bytes, selector_or_ds, with_local, with_table}
-pub use Rattle.w16_machine.specs.LocalCalls.{AllocatesIn, AllocatesObject, Answers, CompactsIn, DiscardsObject, EntersObject, GivesUp, HasNoEntry, HasNoRoom, IsEmptyFixed, IsRefusedAlloc, Leaves, LocalCommand, LocalInits, LocalStep, MakesLonger}
+pub use Rattle.w16_machine.specs.LocalCalls.{AllocatesIn, AllocatesObject, Answers, CompactsIn, DiscardsObject, EntersObject, GivesUp, HasNoEntry, HasNoRoom, IsEmptyFixed, IsRefusedAlloc, Leaves, LocalCommand, LocalInits, LocalStep}
 pub use Rattle.w16_machine.specs.LocalCalls.{MakesObject, ModifiesObject, OnNamed, ResizesObject, SizesObject, is_absent_asked, local_flags_of, local_kind, local_options, lock_refused, locks_left, moveable_or_discardable, near_pointer}
 pub use Rattle.w16_machine.specs.LocalCalls.LocalCommand.{DS, LocalAlloc, LocalCompact, LocalDiscard, LocalFlags, LocalFree, LocalHandle, LocalInit, LocalLock, LocalReAlloc, LocalSize, LocalUnlock}
-pub use Rattle.w16_machine.specs.LocalEffects.{DiscardLaw, Ends, FreeLaw, IsLocalNamed, LockLaw, ModifyLaw, RefusedLaw, UnlockLaw, discard_is_refused, is_refused}
 pub use Rattle.w16_machine.specs.LocalFewest.{AllocFewest, AllocLaw, AllocatedFewest, CompactLaw, GrowsFewest, IsRefusedSize, LacksBytes, LacksGrowth, Left, ReallocFewest, ReallocLaw, ReallocatedFewest}
-pub use Rattle.w16_machine.specs.LocalGrowth.{Grows, IsGrowth, IsKeptShort, IsLongerSize, IsServedAt, Lengthens, OnceLonger, StaysShort, growth_flags, longer, with_longer}
+pub use Rattle.w16_machine.specs.LocalGrowth.{Grows, IsGrowth, IsLongerSize, Lengthens, OnceLonger, StaysShort, growth_flags, longer, with_longer}
 pub use Rattle.w16_machine.specs.LocalLaw.{GrowthLaw, IsHeapLeft, IsLeftByGrowth, IsLengthened, KeepsRestLonger, LeavesLonger, OneGrowthLaw, flags_in, may_grow, BeginLaw, BeginsNone, FarLaw, FrameLaw}
 pub use Rattle.w16_machine.specs.LocalLaw.{GoesLaw, GoneLaw, HasSameObjects, IsBegun, IsHeapKept, IsLocalKept, IsNamedBy, IsObjectKept, IsRewritten, KeepsRest, MayBegin, NamedLaw, NamesLaw}
 pub use Rattle.w16_machine.specs.LocalLaw.{NeverBackLaw, NewHeapLaw, OrderLaw, OthersLaw, OutcomeLaw, PinnedLaw, PlacesLaw, QueriesLaw, asks_for_room, but_bytes, may_move_named, named_by, only_tells}
@@ -47,7 +45,7 @@ pub use Rattle.w16_machine.specs.Machine.Command.{OfLoading, OfLocals}
 pub use Rattle.w16_machine.specs.World.{World}
 pub use Rattle.w16_machine.specs.declared.local.TheConstants.{LAST_LOCAL_END, LMEM_DISCARDABLE, LMEM_MODIFY, LMEM_MOVEABLE, LMEM_NOCOMPACT, LOCAL_ENTRIES, LOCAL_GRAIN}
 pub use Rattle.w16_model.proofs.Absence.{discard_absent, discard_is}
-pub use Rattle.w16_model.proofs.CallOrders.{allocated, compacted, resized, same, stays, touched_rest}
+pub use Rattle.w16_model.proofs.CallOrders.{allocated, compacted, stays, touched_rest}
 pub use Rattle.w16_model.proofs.Common.{Answer, AreResized, Bytes, Enters, Fault, GlobalAlloc, GlobalCompact, HandleStep, IsCountedBy, IsMultiple, IsSound, IsTable, LacksPlace, LacksRoom, MakesRoom, Misses, MovesLittle, OnlyLeave, OthersStand, Read}
 pub use Rattle.w16_model.proofs.Common.{ReallocatesFewest, Table, after_discard, after_free, after_lock, after_modify, after_unlock, block_end, block_with, by_id, compaction_prefix, data_write, entry_at, fits_in_place, growth_for, has_flag, heap_in}
 pub use Rattle.w16_model.proofs.Common.{hold_of_entry, hold_of_object, is_discardable, is_listed, leb-true, min, most_room, nat_le, needed, newest, object_in, prefix_for, removed, room, size_of, slice_range, snapshot, take_all, touched, without, ◌*◌}

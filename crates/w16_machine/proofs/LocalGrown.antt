@@ -8,7 +8,7 @@ use proofs.{LocalLeft.IsLocalAt, LocalLeft.heaps_after, LocalNamed.named_in}
 use Rattle.std.specs.Prelude.{drop}
 use Rattle.std.proofs.{Common.take-take, lemmas.List.drop_all}
 use Rattle.w16_model.specs.declared.TheConstants.{REACH, GMEM_MODIFY, GMEM_NODISCARD}
-use Rattle.w16_model.specs.{declared.Block.Block, declared.RoomOptions.RoomOptions, Calls.rounded_size, Effects.HasNewSize, Gap.IsLaid, Gap.block_end, Handles.handle_of, Handles.selector_of, Handles.slot_of_handle, Reallocation.IsResized, Resizes.GlobalReAllocs, Resizes.realloc_options}
+use Rattle.w16_model.specs.{declared.Block.Block, declared.RoomOptions.RoomOptions, Calls.rounded_size, CallLaws.HasNewSize, Gap.IsLaid, Gap.block_end, Handles.handle_of, Handles.selector_of, Handles.slot_of_handle, Reallocation.IsResized, Resizes.GlobalReAllocs, Resizes.realloc_options}
 use Rattle.w16_model.proofs.{KeptHandles.moved_handles, Naming.names_law, NewSize.size_law, Ranges.range_law, ResizedHandles.resize_law, ResizedHandles.one_slot_law}
 use Rattle.w16_loading.specs.Modules.{with_handles}
 

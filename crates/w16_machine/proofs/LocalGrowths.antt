@@ -4,11 +4,12 @@ use proofs.Common as C
 use proofs.Common.{◌≡◌, ℕ, inl, inr, false, Some, None, IfSome, refl, sym, ap, ◌∙◌, subst, cond, Table, is_code, Err, Format, IsOfFiles, OfResizes, GlobalReAlloc, Word, World, IsWorld, Step, with_handles, growth_flags, arith}
 use proofs.LocalGrown.{grown_handles, grown_object, grown_world}
 use proofs.{Loaded.loading_world_kept, LocalFacts.IsThere, LocalLeft.left_is, LocalLeft.left_over, Stepped.handles_step}
+use Rattle.w16_loading.specs.declared.LoadRefusal.TheVariants.{BadFile}
 use Rattle.std.specs.FinMap as finmap
 
 -- a format that accepts nothing
 abbrev nothing : Format
-nothing = record { says = λ file. Err 11; contents = λ file number. None; relocated = λ t source table values size. None }
+nothing = record { says = λ file. Err BadFile; contents = λ file number. None; relocated = λ t source table values size. None }
 
 module _ (old : World) (at : C.LocalHeap) (options : C.RoomOptions) (size : ℕ) (l : C.Lengthens old at options size) where
   -- the world that the reallocation leaves

@@ -2,13 +2,24 @@
 use Rattle.w16_machine.proofs
 use proofs.Common as C
 use proofs.Common.{◌≡◌, ◌≢◌, ℕ, ◌<◌, ◌≤◌, ◌==◌, inl, inr, Bool, true, false, cond, MatchBool, IsSomeAnd, List, [], ◌∷◌, length, take, is_some, Option, Some, None, refl, sym, ap, ◌∙◌, subst, arith, false≢true, Heap, object_at, Handles, OnlyLeave, not, ◌&&◌}
-use proofs.LocalOneGrowth.{resizes}
 use Rattle.std.specs.Prelude.{◌++◌}
 use Rattle.w16_model.specs.declared.TheConstants.{LARGEST_SIZE, REACH, GMEM_MODIFY}
-use Rattle.w16_model.specs.Resizes.{Anew, GetsRun, GlobalReAllocs, IsNull, ReAllocsOwn, ResizesObject, realloc_options, rehoused, with_run}
-use Rattle.w16_model.specs.{declared.Attributes.Attributes, Calls.rounded_size, Handles.slots_at, Handles.slots_for, Outcomes.IsNamed, Owned.owns, Reallocation.KeepsRest, Request.Reallocates}
+use Rattle.w16_model.specs.Resizes.{Anew, AnswersHandle, Empties, GetsRun, GlobalReAllocs, IsNull, ReAllocsOwn, Resizes, ResizesObject, kind_modified, modified, realloc_options, rehoused, with_run}
+use Rattle.w16_model.specs.{declared.Attributes.Attributes, Calls.rounded_size, Handles.slot_of_handle, Handles.slots_at, Handles.slots_for, Outcomes.IsNamed, Owned.owns, Reallocation.KeepsRest, Request.Reallocates}
 use Rattle.w16_model.proofs.{Housed.stays, KeptRest.no_more, KeptRest.rest_law}
 use Rattle.std.specs.FinMap as finmap
+
+-- A reallocation to a size above 0 resizes its object.
+module _ (old : Handles) (handle slot size flags : ℕ) (found : slot_of_handle old handle ≡ Some slot) (keeps : C.has_flag flags GMEM_MODIFY ≡ false) (some : 0 < size) where
+  pub resizes : (answer : ℕ) (new : Handles) → ReAllocsOwn old handle size flags answer new → Resizes old slot flags size answer new
+  resizes answer new g =
+      subst (λ b. MatchBool b (Empties old handle slot flags answer new) (Resizes old slot flags size answer new)) (C.ne_eqb size 0 (λ e. omega (arith, e, some)))
+      (subst (λ b. MatchBool b (AnswersHandle old handle (modified old.heap slot (kind_modified flags)) answer new) (MatchBool (size == 0) (Empties old handle slot flags answer new) (Resizes old slot flags size answer new))) keeps
+      (subst (λ p. C.MatchOption p (IsNull old answer new)
+      (λ slot. MatchBool (C.has_flag flags GMEM_MODIFY)
+      (AnswersHandle old handle (modified old.heap slot (kind_modified flags)) answer new)
+      (MatchBool (size == 0) (Empties old handle slot flags answer new) (Resizes old slot flags size answer new))))
+      found g))
 
 module _ (old new : Handles) (is : C.AreHandles old) (handle slot size flags answer : ℕ) (o : C.Object) (bytes : List ℕ) (n : IsNamed old handle slot o) (has : o.bytes ≡ Some bytes) (keeps : C.has_flag flags GMEM_MODIFY ≡ false)
     (some : 0 < size) (few : rounded_size size ≤ REACH) (short : length bytes ≤ REACH) (answers : answer ≢ 0) (step : GlobalReAllocs old handle size flags answer new) where

@@ -1,4 +1,4 @@
--- What holds of every world, and the laws of steps and runs of the whole machine. Each law is the contract of a function of the module `laws`.
+-- What holds of every world, and the laws of steps and runs of the whole machine. Each law is the contract of a function of `w16_laws`.
 use Rattle.w16_machine.specs
 use Rattle.std.specs.Prelude.{◌≡◌, ◌≢◌, ℕ, ◌+◌, ◌≤◌, ◌⊎◌, false, List, length, All, Some, IfSome, true, is_some, IsSomeAnd, [], ◌∷◌}
 use Rattle.w16_model.specs.{declared.TheConstants.MOST_SLOTS, Heap.Heap, Heap.bytes_at, Owned.is_code, declared.Item.Item, Handles.handle_of, Walk.IsWalk, Heap.object_at, Heap.is_fixed, Table.Table, Table.heap_in, Law.AreHandles, Handles.Handles}

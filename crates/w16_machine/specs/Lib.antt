@@ -7,6 +7,5 @@ pub mod Fewest
 pub mod Law
 pub mod LocalLaw
 pub mod LocalFewest
-pub mod LocalEffects
 pub mod LocalStays
 pub mod Bystanders

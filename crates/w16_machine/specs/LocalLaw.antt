@@ -1,4 +1,4 @@
--- The laws that show the definitions of local heaps to be the right ones. Each is the contract of a function of the module `local_laws`.
+-- The laws that show the definitions of local heaps to be the right ones. Each is the contract of a function of `w16_laws`.
 use Rattle.w16_machine.specs
 use Rattle.std.specs.Prelude.{Bool, false, ◌≡◌, ◌≢◌, ℕ, ◌+◌, ◌<◌, ◌≤◌, ◌⊎◌, ◌↔◌, ◌==◌, ◌&&◌, ◌||◌, not, true, List, length, take, All, Option, Some, None, is_some, option_map, IsSomeAnd}
 use Rattle.w16_model.specs.Heap.{Heap, Object, IsHeap, IsMultiple, object_at, bytes_at, is_pinned_object}

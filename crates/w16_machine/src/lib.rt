@@ -1,7 +1,5 @@
-//! The meaning of the machine that a script runs: the world, the commands in families, the steps and runs, as definitions (`specs/`), and
-//! their laws. The heap, its handles and far accesses are defined in `w16_model`; docs/DEFINITIONS.md of the repository reads all aloud.
+//! The meaning of the machine that a script runs: the world, the commands in families, the steps and runs, as definitions (`specs/`).
+//! Their laws are in `w16_laws`. The heap, its handles and far accesses are defined in `w16_model`; docs/DEFINITIONS.md of the repository reads all aloud.
 #![tactic(auto)]
 
-pub mod laws;
 pub mod local;
-pub mod local_laws;

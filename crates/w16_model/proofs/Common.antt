@@ -19,14 +19,13 @@ pub use Rattle.std.specs.Ordering.{eq_by_cmp, nat_cmp}
 pub use Rattle.w16_model.specs.Arrangement.{IsArrangement, IsFreeStretch, IsGap, IsLongestStretch}
 pub use Rattle.w16_model.specs.Bytes.{part, put_part}
 unfoldable pub use Rattle.w16_model.specs.Bytes.{repeated}
-pub use Rattle.w16_model.specs.CallLaws.{AttributesLaw, BystandersLaw, ContentsLaw, FarEffect, FarEffectLaw, IsAbout, IsKeptOrDiscarded, IsMoved, IsNewestOf, IsSumOfMoved, IsWritten, KeepsContents, MovedLaw, NewObjectLaw, NullLaw, OnlyLeave, OthersOrderLaw}
-pub use Rattle.w16_model.specs.CallLaws.{OldHandleLaw, OthersStand, PinnedStayLaw, Reaches, ReadBackLaw, SlotsLaw, StillLaw, UnorderedLaw, UseLaw, handle_in, may_change, may_move_others, may_move_own, may_order, names, next_slot, size_at, slot_after}
+pub use Rattle.w16_model.specs.CallLaws.{AttributesLaw, BystandersLaw, ContentsLaw, FarEffect, FarEffectLaw, IsAbout, IsKeptOrDiscarded, IsMoved, IsNewestOf, IsSumOfMoved, IsWritten, KeepsContents, MovedLaw, NewObjectLaw, NullLaw, OnlyLeave, OthersOrderLaw, HasNewSize, SizeLaw}
+pub use Rattle.w16_model.specs.CallLaws.{OldHandleLaw, OthersStand, PinnedStayLaw, Reaches, ReadBackLaw, SlotsLaw, StillLaw, UnorderedLaw, UseLaw, handle_in, may_change, may_move_others, may_move_own, may_order, next_slot, size_at, slot_after}
 pub use Rattle.w16_model.specs.Calls.{Answer, GlobalAllocs, GlobalCompacts, HandleCommand, HandleStep, HasNoSlots, IsEmptyFixed, IsRefusedAlloc, IsTooLong, alloc_options, free_own, global_free, global_lock, global_unlock, handle_or_0, has_flag, is_absent_asked, kind_asked, locks_at, rounded_size}
 pub use Rattle.w16_model.specs.Calls.Answer.{Dword, Walked, Word}
 pub use Rattle.w16_model.specs.Calls.HandleCommand.{GetSelectorBase, GetSelectorLimit, GlobalAlloc, GlobalCompact, GlobalFlags, GlobalFree, GlobalHandle, GlobalLRUNewest, GlobalLRUOldest, GlobalLock, GlobalSize, GlobalUnlock, Moved, Walk}
 pub use Rattle.w16_model.specs.Changes.{absent, newest, oldest, removed, touched, update, with_newest, with_object, with_ordered, without}
 pub use Rattle.w16_model.specs.Discards.{blocks_without, eligible, fits_in_place, growth_for, is_about, is_member, is_pinned_id, needed, none_discarded_if, prefix_for, room_for, snapshot}
-pub use Rattle.w16_model.specs.Effects.{AnsweredLaw, DiscardLaw, FreeLaw, HasNewSize, LockLaw, ModifyLaw, SizeLaw, UnlockLaw}
 pub use Rattle.w16_model.specs.Far.{FarAnswer, after_write, data_write, far_at, far_bytes, far_fault, far_part, far_read, far_slot, far_write, is_past}
 pub use Rattle.w16_model.specs.Far.FarAnswer.{Bytes, Done, Fault}
 pub use Rattle.w16_model.specs.Far.FarCommand.{Fill, Read, Write}
@@ -63,4 +62,4 @@ pub use Rattle.w16_model.specs.declared.Owner.{Owner}
 pub use Rattle.w16_model.specs.declared.Refusal.{Refusal}
 pub use Rattle.w16_model.specs.declared.RoomOptions.{RoomOptions}
 pub use Rattle.w16_model.specs.declared.Span.{Span}
-pub use Rattle.w16_model.specs.declared.TheConstants.{FIRST_SLOT, GMEM_DISCARDABLE, GMEM_MODIFY, GMEM_MOVEABLE, GRAIN, LARGEST_SIZE, REACH}
+pub use Rattle.w16_model.specs.declared.TheConstants.{FIRST_SLOT, GMEM_MODIFY, GMEM_MOVEABLE, GRAIN, LARGEST_SIZE, REACH}

@@ -4,7 +4,6 @@ pub mod Gaps
 pub mod Maximal
 pub mod Starts
 pub mod Longest
-pub mod Longer
 pub mod Pinned
 pub mod Laid
 pub mod Members
@@ -35,7 +34,6 @@ pub mod Answered
 pub mod Outcomes
 pub mod Fewest
 pub mod Cuts
-pub mod LeftOut
 pub mod Replaced
 pub mod KindChanges
 pub mod Growth
@@ -48,9 +46,6 @@ pub mod ResizedHandles
 pub mod CallLaws
 pub mod FarLaws
 pub mod CallOrders
-pub mod NewHandles
-pub mod Selectors
 pub mod Bystanders
 pub mod NewSize
-pub mod Effects
 pub mod AtEnds

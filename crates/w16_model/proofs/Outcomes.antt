@@ -1,9 +1,8 @@
--- What a request leaves where it stands, and that it isn't both refused and answered.
+-- What a request leaves where it stands.
 use Rattle.w16_model.proofs
 use proofs.Common as C
-use proofs.Common.{◌≡◌, ◌≢◌, ℕ, ◌<◌, inl, inr, Bool, true, false, cond, not, ◌&&◌, ◌||◌, ◌==◌, IsSomeAnd, List, Option, Some, None, is_some, refl, sym, ap, ◌∙◌, subst, arith, false≢true, Block, Loose, GMEM_MOVEABLE, is_pinned, Heap, Object, object_at, hold_of_object, stays_for, IsNew}
-use proofs.Common.{discards_needed, has_flag, alloc_options, kind_asked, rounded_size}
-use proofs.{Gaps.Each-at, Gaps.Each-from_All, Heaps.IsBlockOf, Heaps.block_member, Runs.unused, Runs.some_slots, Prefixes.none_about}
+use proofs.Common.{◌≡◌, ◌≢◌, ℕ, Bool, true, false, cond, not, ◌&&◌, ◌||◌, IsSomeAnd, List, Option, Some, None, is_some, refl, sym, ap, ◌∙◌, subst, false≢true, Block, Loose, is_pinned, Heap, Object, object_at, hold_of_object, stays_for}
+use proofs.{Gaps.Each-at, Gaps.Each-from_All, Heaps.IsBlockOf, Heaps.block_member}
 use Rattle.std.specs.FinMap as finmap
 
 module _ (old : Heap) (is : C.IsHeap old) (stays : Block → Bool) (heap new : Heap) (settles : C.Settles old stays heap new) where
@@ -60,52 +59,3 @@ address_law old new is k = (
     unmoved = λ none q other. absurd (false≢true (sym none));
   }),
 )
-
--- what an answered allocation has made
-abbrev Made : C.Handles → ℕ → ℕ → ℕ → Heap → Bool → Type 0
-Made old flags size slot new absent = C.MatchBool absent (C.Enters old.heap slot (kind_asked flags) new) (C.Allocates old.heap slot (rounded_size size) (kind_asked flags) 0 (alloc_options flags) true new)
-
--- An allocation that was answered is none of those that are refused.
-module _ (old : C.Handles) (is : C.AreHandles old) (flags size : ℕ) where
-  -- it had a prefix
-  has_prefix : (slot : ℕ) (options : C.RoomOptions) (p : Option ℕ) (becomes : Object → Type 0) (order : Object → List ℕ → List ℕ) (new : Heap) → C.Request old.heap slot (record { options = options; prefix = p; becomes = becomes; order = order }) true new → p ≡ None → ⊥
-  has_prefix slot options None becomes order new r none = false≢true (sym r.0)
-  has_prefix slot options (Some k) becomes order new r none = cc
-
-  not_refused : (slot : ℕ) (new : Heap) → object_at old.heap slot ≡ None → C.Allocates old.heap slot (rounded_size size) (kind_asked flags) 0 (alloc_options flags) true new → discards_needed old.heap (rounded_size size) None (alloc_options flags) ≡ None → ⊥
-  not_refused slot new unused allocated none = has_prefix slot (alloc_options flags) (discards_needed old.heap (rounded_size size) (Some slot) (alloc_options flags)) (IsNew (alloc_options flags).zero (rounded_size size) (kind_asked flags) 0) (C.with_newest slot) new allocated.request
-      (none_about old.heap is.heap slot unused (rounded_size size) (alloc_options flags) ∙ none)
-
-  -- a fixed object of no bytes isn't allocated
-  nothing_rounded : size ≡ 0 → rounded_size size ≡ 0
-  nothing_rounded none = ap rounded_size none
-
-pub outcome_law : C.OutcomeLaw
-outcome_law old new flags size handle is answers refused = elim refused [
-  | inl fixed ↦ made_fixed fixed
-  | inr others ↦ elim others [
-    | inl large ↦ omega (arith, large, answers.small)
-    | inr others ↦ elim others [
-      | inl full ↦ full answers.slot answers.free
-      | inr room ↦ made_room room
-    ]
-  ]
-]
-  where
-    made_fixed : (size ≡ 0) × (has_flag flags GMEM_MOVEABLE ≡ false) → ⊥
-    made_fixed h = turn ((size == 0) && has_flag flags GMEM_MOVEABLE) (ap (λ b. (size == 0) && b) h.1) answers.made
-      where
-        and_false : (b : Bool) → (b && false) ≡ false
-        and_false true = refl
-        and_false false = refl
-
-        turn : (b : Bool) → b ≡ ((size == 0) && false) → Made old flags size answers.slot new.heap b → ⊥
-        turn true e m = false≢true (sym (and_false (size == 0)) ∙ sym e)
-        turn false e m = omega (arith, m.some, nothing_rounded old is flags size h.0)
-
-    made_room : (0 < size) × (discards_needed old.heap (rounded_size size) None (alloc_options flags) ≡ None) → ⊥
-    made_room h = turn ((size == 0) && has_flag flags GMEM_MOVEABLE) (ap (λ b. b && has_flag flags GMEM_MOVEABLE) (C.ne_eqb size 0 (λ e. absurd (omega (arith, e, h.0))))) answers.made
-      where
-        turn : (b : Bool) → b ≡ false → Made old flags size answers.slot new.heap b → ⊥
-        turn true e m = false≢true (sym e)
-        turn false e m = not_refused old is flags size answers.slot new.heap (unused old is answers.slot (C.slots_for (rounded_size size)) (some_slots (rounded_size size)) answers.free) m h.1

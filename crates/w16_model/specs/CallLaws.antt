@@ -8,9 +8,9 @@ use specs.Handles.{Handles, slot_of_handle, part_of_selector, selector_in, offse
 use specs.Calls.HandleCommand.{GlobalAlloc, GlobalFree, GlobalLock, GlobalUnlock, GlobalCompact, GlobalLRUNewest, GlobalLRUOldest}
 use specs.Far.FarCommand.{Read, Write, Fill}
 use specs.Far.FarAnswer.{Bytes, Done, Fault}
-use specs.Outcomes.{Call, CallStep, counts_moved}
+use specs.Outcomes.{Call, CallStep, IsNamed, counts_moved}
 use specs.Outcomes.Call.{Calls, ReAllocs}
-use specs.Reallocation.{without_all, LacksPlace, ReallocatesFewest}
+use specs.Reallocation.{without_all, IsResized, LacksPlace, ReallocatesFewest}
 use specs.Calls.{Answer, HandleStep, AnswersAlloc, has_flag, rounded_size, is_shared}
 use specs.Far.{FarCommand, FarAnswer}
 use specs.Resizes.{LacksRun, realloc_options, rehoused, GlobalReAllocs, CanExtend}
@@ -272,3 +272,12 @@ PlaceLaw = (old new : Handles) (handle size flags answer slot : ℕ) → AreHand
     → answer ≢ 0 → answer ≢ handle → is_member slot old.heap.order ≡ true
     → (gone : List ℕ) × ((q : ℕ) → is_member q gone ≡ true → bytes_at new.heap q ≡ None)
     × (new.heap.order ≡ map (λ q. if q == slot then answer / 8 else q) (without_all gone old.heap.order))
+
+-- a handle's object is another at another size: so many bytes, the old ones first, and its kind and its locks
+abbrev pub HasNewSize : Handles → ℕ → Bool → ℕ → Object → Type 0
+HasNewSize handles handle zero n before = IsSomeAnd (slot_of_handle handles handle) (λ slot. IsSomeAnd (object_at handles.heap slot) (IsResized zero n before))
+
+-- a reallocation to a size above 0 that isn't NULL gives the object this size, rounded up, under the handle that it answers
+abbrev pub SizeLaw : Type 0
+SizeLaw = (old new : Handles) (handle slot size flags : ℕ) (o : Object) (answer : ℕ) → AreHandles old → IsNamed old handle slot o → has_flag flags GMEM_MODIFY ≡ false → 0 < size → answer ≢ 0
+    → GlobalReAllocs old handle size flags answer new → HasNewSize new answer (realloc_options flags).zero (rounded_size size) o

@@ -1,4 +1,4 @@
--- What holds of all handles, and the laws that show the definitions to be the right ones. Each law is the contract of a function of the module `laws`.
+-- What holds of all handles, and the laws that show the definitions to be the right ones. Each law is the contract of a function of `w16_laws`.
 use Rattle.w16_model.specs
 use Rattle.std.specs.Prelude.{◌≡◌, ◌≢◌, ℕ, ◌+◌, ◌-◌, ◌*◌, ◌<◌, ◌≤◌, ◌↔◌, min, Bool, true, false, IfSome, IsSomeAnd, List, take, map, length, All, AllPairs, Contains, Option, Some, None, is_some, [], ◌⊎◌, MatchOption, slice_get, nat_lt, filter}
 use specs.declared.Kind.TheVariants.{Discardable}

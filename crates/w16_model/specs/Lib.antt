@@ -18,6 +18,5 @@ pub mod Resizes
 pub mod Table
 pub mod Outcomes
 pub mod CallLaws
-pub mod Effects
 pub mod Codes
 pub mod Ends

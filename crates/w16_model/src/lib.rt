@@ -1,5 +1,5 @@
-//! The meaning of a Windows 3.1 heap: gaps, room, requests, handles and steps as definitions (`specs/`), their laws, and a plain slow
-//! program that computes them. docs/DEFINITIONS.md of the repository reads the definitions aloud.
+//! The meaning of a Windows 3.1 heap: gaps, room, requests, handles and steps as definitions (`specs/`), and a plain slow program
+//! that computes them. Their laws are in `w16_laws`; docs/DEFINITIONS.md of the repository reads the definitions aloud.
 #![tactic(auto)]
 
 use thiserror::Error;
@@ -168,10 +168,8 @@ pub const GMEM_DDESHARE: u16 = 0x2000;
 /// `GlobalFlags`: the object has no bytes.
 pub const GMEM_DISCARDED: u16 = 0x4000;
 
-pub mod ends;
 mod flags;
 mod kinds;
-pub mod laws;
 pub mod names;
 mod plain;
 

@@ -11,20 +11,24 @@ pub use Rattle.w16_format.specs.Law.{IsFileOf}
 pub use Rattle.w16_format.specs.Ne.{ne_format}
 pub use Rattle.w16_format.specs.Tables.{label_in}
 pub use Rattle.w16_global.proofs.Common.{counted}
-pub use Rattle.w16_global.specs.Joined.{Global}
 pub use Rattle.w16_global.specs.Owned.{LacksBytes}
-pub use Rattle.w16_loader.proofs.Common.{AreHandles, Bool, Discardable, FetchFault, FinMap, Fixed, GRAIN, GivesBytes, Handles, HasNoSlot, Held, IfNone, IfSome, IsFreeSlot, IsObjectOf, IsSomeAnd, IsWritten, Kind}
-pub use Rattle.w16_loader.proofs.Common.{LARGEST_OWNED, Less, List, LoadingWorld, MatchOption, Module, Modules, Moveable, None, Object, Ok, Option, Result, Revives, Some, TakesOwned, [], ap, arith, by_id, by_order, cases_eq, cases_lt, cond, drop}
-pub use Rattle.w16_loader.proofs.Common.{entries-insert, eq-eqb, err_from_is_err_and, false, false≢true, filter, find, get-by_id, get_or, get_or-set_other, get_or-set_same, get_or_default, get_or_past, given, inl, inr, inserted_here, inserted_other}
-pub use Rattle.w16_loader.proofs.Common.{is_in_order, is_of_device, is_some, le-ltb, left, len-empty, len-entries, length, length-drop, length-map, length-take, lt-ltb, ltb-false, map, module_at, nat_cmp, nat_cmp_is, nat_cmp_total, nat_lt}
-pub use Rattle.w16_loader.proofs.Common.{ne_eqb, none_gone, not, numbered, object_at, option_map, owned_at, position, prefix_len, put, refl, refused, retained, rounded_size, rules, same_values, set, slice_get, slice_get-map, slice_index_or}
-pub use Rattle.w16_loader.proofs.Common.{subst, suc, sym, tables_in, take, taken_here, taken_other, true, unwrap_or, with_object, without_objects, without_absent, without_slot, zero, ℕ, ◌%◌, ◌&&◌, ◌+◌, ◌-◌, ◌/◌, ◌<◌, ◌==◌, ◌||◌, ◌∙◌, ◌∷◌, ◌≡◌, ◌≤◌}
+pub use Rattle.w16_loader.proofs.Common.{AreHandles, Bool, Discardable, FetchFault, FinMap, Fixed, GRAIN, Handles, HasNoSlot, Held, IfNone}
+pub use Rattle.w16_loader.proofs.Common.{IfSome, IsFreeSlot, IsObjectOf, IsSomeAnd, IsWritten, Kind}
+pub use Rattle.w16_loader.proofs.Common.{LARGEST_OWNED, Less, List, LoadingWorld, MatchOption, Module, Modules, Moveable, None, Object, Ok, Option, Result, Some}
+pub use Rattle.w16_loader.proofs.Common.{TakesOwned, [], ap, arith, by_id, by_order, cases_eq, cases_lt, cond, drop}
+pub use Rattle.w16_loader.proofs.Common.{entries-insert, eq-eqb, err_from_is_err_and, false, false≢true, filter, find, get-by_id, get_or, get_or-set_other, get_or-set_same}
+pub use Rattle.w16_loader.proofs.Common.{get_or_default, get_or_past, given, inl, inr, inserted_here, inserted_other}
+pub use Rattle.w16_loader.proofs.Common.{is_in_order, is_some, le-ltb, left, len-empty, len-entries, length, length-drop, length-map, length-take}
+pub use Rattle.w16_loader.proofs.Common.{ltb-false, map, module_at, nat_cmp, nat_cmp_is, nat_cmp_total, nat_lt}
+pub use Rattle.w16_loader.proofs.Common.{ne_eqb, none_gone, not, numbered, object_at, option_map, owned_at, position, prefix_len, put, refl, refused, retained}
+pub use Rattle.w16_loader.proofs.Common.{rounded_size, rules, same_values, set, slice_get, slice_get-map, slice_index_or}
+pub use Rattle.w16_loader.proofs.Common.{subst, suc, sym, tables_in, take, taken_here, taken_other, true, unwrap_or, with_object, without_objects, without_absent}
+pub use Rattle.w16_loader.proofs.Common.{without_slot, zero, ℕ, ◌%◌, ◌&&◌, ◌+◌, ◌-◌, ◌/◌, ◌<◌, ◌==◌, ◌||◌, ◌∙◌, ◌∷◌, ◌≡◌, ◌≤◌}
 pub use Rattle.w16_loader.proofs.Common.{◌⊎◌}
 unfoldable pub use Rattle.w16_loader.proofs.Common.{file_of}
-pub use Rattle.w16_loader.specs.Fetching.{fault_of}
+pub use Rattle.w16_loader.specs.Fetching.{fetch_fault}
 pub use Rattle.w16_loader.specs.Registry.{in_world}
 pub use Rattle.w16_loading.proofs.Absences.{all_retained}
-pub use Rattle.w16_loading.proofs.Fewest.{fill_fewest}
 pub use Rattle.w16_loading.proofs.Common.{MatchBool, absent, after, bytes_at, eqb-true, outcome, owned_in, owns}
 pub use Rattle.w16_loading.proofs.ShrunkWorlds.{value_gone, value_left}
 pub use Rattle.w16_loading.proofs.Stepping.{freed_by, resource_load, with_count}
@@ -33,21 +37,21 @@ pub use Rattle.w16_loading.specs.Fewest.{FewestOver, FillsFewest}
 pub use Rattle.w16_loading.specs.Families.LoadingCommand.{OfResources}
 pub use Rattle.w16_loading.specs.Families.ResourceCommand.{LoadResource, LockResource}
 pub use Rattle.w16_loading.specs.Fetch.{Fetching, IsImage}
-pub use Rattle.w16_loading.specs.Fill.{is_of_read}
 pub use Rattle.w16_loading.specs.File.{Resource}
 pub use Rattle.w16_loading.specs.Free.{is_left_over, without_orphans}
 pub use Rattle.w16_loading.specs.Law.{IsLoad, IsLoadingWorld, IsOfFiles}
 pub use Rattle.w16_loading.specs.Modules.{with_handles}
 pub use Rattle.w16_loading.specs.Replies.{Reply}
 pub use Rattle.w16_loading.specs.Replies.Reply.{Dword, Word}
-pub use Rattle.w16_loading.specs.Resource.{AnswersNone, LoadsNewResource, LoadsResource, LocksResource, attributes_for, free_resource, is_too_long, load_of, loaded_again, lock_outcome, locked, reply_of_call, resource_at, resource_outcome, slot_of_resource, with_resource}
-pub use Rattle.w16_loading.specs.declared.FetchFault.TheVariants.{Damaged, NoRoom, Store}
+pub use Rattle.w16_loading.specs.Resource.{AnswersNone, LoadsNewResource, LoadsResource, LocksResource, attributes_for, free_resource, is_too_long, load_of, loaded_again, lock_outcome}
+pub use Rattle.w16_loading.specs.Resource.{locked, reply_of_call, resource_at, resource_outcome, slot_of_resource, with_resource}
+pub use Rattle.w16_loading.specs.declared.FetchFault.TheVariants.{Store}
 pub use Rattle.w16_model.proofs.Naming.{names_law}
 pub use Rattle.w16_model.proofs.Runs.{unused_slot}
 pub use Rattle.w16_model.specs.Calls.{flags_of, global_flags, global_lock, is_shared, locks_at}
 pub use Rattle.w16_model.specs.Changes.{without}
 pub use Rattle.w16_model.specs.Handles.{Gives, handle_of, selector_of, slot_of_handle, slot_of_selector}
-pub use Rattle.w16_model.specs.Heap.{IsCounted, IsHeap, is_discardable}
+pub use Rattle.w16_model.specs.Heap.{IsCounted, is_discardable}
 pub use Rattle.w16_model.specs.Owned.{is_owned}
 pub use Rattle.w16_model.specs.declared.Owned.{Owned}
 pub use Rattle.w16_ne.proofs.Common.{bit_and, size}
@@ -55,7 +59,7 @@ pub use Rattle.w16_ne.specs.Resources.{Entry, entry_of, label_of}
 pub use Rattle.w16_reloc.specs.Segments.{Refuses}
 pub use Rattle.w16_reloc.specs.declared.fault.RelocFault.{RelocFault}
 pub use Rattle.w16_resource.specs.Loads.{listed, load_in, loads_in, without_load, without_orphan}
-pub use Rattle.w16_resource.specs.Parts.{IsLoadingOver, dword_in, loading_of, word_in}
-pub use Rattle.w16_resource.specs.Sources.{GivesSource, IsMadeOr, IsSourceAt, IsSourceOf, MakesNew, MakesOne, bytes_in, is_long, with_new}
+pub use Rattle.w16_resource.specs.Parts.{FetchesResource, IsLoadingOver}
+pub use Rattle.w16_resource.specs.Sources.{IsFirstLoad, IsSourceAt, is_long}
 pub use Rattle.w16_resource.specs.declared.listing.Load.{Load}
 pub use Rattle.w16_store.specs.Later.{IsLater}

@@ -1,9 +1,10 @@
 -- A resource is read from the file of its module: where it is there, and what a fetch of it is in a world of its files.
 use Rattle.w16_resource.proofs
 use proofs.Common as C
-use proofs.Common.{listed_resources, resource_in, IsFileOf, ne_format, label_in, Bool, IfSome, IsSomeAnd, List, LoadingWorld, Module, None, Option, Some, [], ap, arith, cond, false, inr, map, not, numbered, option_map, owned_at, position, refl, rounded_size, subst, suc, sym, unwrap_or}
-use proofs.Common.{zero, ℕ, ◌&&◌, ◌+◌, ◌-◌, ◌∙◌, ◌∷◌, ◌≡◌, told, Resource, IsLoadingWorld, resource_at, Entry, IsSourceAt, IsSourceOf, is_long}
-use proofs.Given.{some_bytes}
+use proofs.Common.{listed_resources, resource_in, IsFileOf, ne_format, label_in, Bool, IfSome, IsSomeAnd, List, LoadingWorld, Module, None, Option, Some, [], ap, arith}
+use proofs.Common.{cond, false, inr, map, not, numbered, option_map, owned_at, position, refl, rounded_size, subst, suc, sym, unwrap_or}
+use proofs.Common.{zero, ℕ, ◌&&◌, ◌+◌, ◌-◌, ◌∙◌, ◌∷◌, ◌≡◌, told, Resource, IsLoadingWorld, resource_at, Entry, IsSourceAt, is_long}
+use proofs.Given.{GivesSource, IsSourceOf, some_bytes}
 use Rattle.w16_loading.specs.Modules.{IsResourceOf}
 use Rattle.w16_loader.proofs.Fetches.{owned_fetch}
 use Rattle.std.specs.FinMap as finmap
@@ -27,41 +28,14 @@ resource_of p place = elim p as (λ _. Option Resource) [ None ↦ None | Some m
 pub in_tables : (m : Module) (t : ne.Tables) (place : ℕ) → m.tables ≡ C.tables_in t → resource_of (Some m) place ≡ option_map resource_in (ne.resource_at t.resources place)
 in_tables m t place same = ap (λ u. numbered u.resources place) same ∙ place_in t.resources place
 
-pub source_resource : (world : LoadingWorld) (handle place : ℕ) (name : List ℕ) (entry : Entry) → (s : IsSourceAt world.modules handle place name entry) → resource_at world handle place ≡ Some (resource_in (s.kind, entry))
+pub source_resource : (world : LoadingWorld) (handle place : ℕ) (name : List ℕ) (entry : Entry)
+    → (s : IsSourceAt world.modules handle place name entry) → resource_at world handle place ≡ Some (resource_in (s.kind, entry))
 source_resource world handle place name entry s = ap (λ p. resource_of p place) s.loaded ∙ in_tables s.m s.t place s.tables ∙ ap (option_map resource_in) s.there
 
 -- the file of its module
-pub file_there : (world : LoadingWorld) → C.IsOfFiles ne_format world → (handle place : ℕ) (name : List ℕ) (entry : Entry) (s : IsSourceAt world.modules handle place name entry) → (file : List ℕ) × IsFileOf world s.m file s.t
+pub file_there : (world : LoadingWorld) → C.IsOfFiles ne_format world
+    → (handle place : ℕ) (name : List ℕ) (entry : Entry) (s : IsSourceAt world.modules handle place name entry) → (file : List ℕ) × IsFileOf world s.m file s.t
 file_there world of handle place name entry s = C.stored_law world handle s.m s.t of s.loaded s.tables
-
-pub source_in : {honest : Type 0} → honest → (world : LoadingWorld) (handle place : ℕ) (name : List ℕ) (entry : Entry) (s : IsSourceAt world.modules handle place name entry) → (of : (bytes : List ℕ) × IsFileOf world s.m bytes s.t) → is_long entry.len ≡ false
-    → (handles : C.Handles) (slot : ℕ) → owned_at handles slot ≡ Some (record { size = rounded_size entry.len; code = false }) → IsSourceOf honest world.files name handles slot entry
-source_in truly world handle place name entry s of short handles slot owned = record {
-  truly = truly;
-  file = of.0;
-  stored = ap (C.file_of world.files) (sym s.named) ∙ of.1.stored;
-  short = short;
-  inside = s.inside of.0 of.1.tables (some_bytes entry.len short);
-  sized = owned;
-}
-
--- What gives a resource's object the bytes of its file is a fetch.
-module _ (honest : Type 0) (world : LoadingWorld) (before later slot handle place loads : ℕ) (name : List ℕ) (entry : Entry) (s : IsSourceAt world.modules handle place name entry)
-    (has : finmap.get world.loads slot ≡ Some (record { handle = handle; place = place; loads = loads })) (of : honest → (bytes : List ℕ) × IsFileOf world s.m bytes s.t) (short : is_long entry.len ≡ false)
-    (sized : owned_at world.handles slot ≡ Some (record { size = rounded_size entry.len; code = false })) where
-  pub fetches : (fault : Option C.FetchFault) (new : C.Handles) → C.GivesSource honest world.files name entry before later world.handles slot fault new
-      → C.FetchesFrom C.FillsFewest (told honest ne_format world.files before later) world slot fault (C.with_handles world new)
-  unfolding source_in
-  fetches fault new f =
-      let known : honest → IsSourceOf honest world.files name world.handles slot entry = λ h. source_in h world handle place name entry s (of h) short world.handles slot sized in
-      owned_fetch honest (IsSourceOf honest world.files name world.handles slot entry) known _ world slot (λ bytes sized read. (
-        inr (handle, place, s.m, here),
-        λ h. subst (C.IsImage ne_format world slot) (sym (read (known h)))
-            (inr (handle, place, s.m, here, C.resource_given world s.m (of h).0 s.t place (s.kind, entry) (of h).1 s.there)),
-      )) before later fault new f
-    where
-      here : IsResourceOf world slot handle place s.m
-      here = record { loaded = s.loaded; loads = loads; has = has }
 
 -- In each world the resource of a load is there.
 module _ (world : LoadingWorld) (slot : ℕ) (load : loading.Load) (has : finmap.get world.loads slot ≡ Some load) where
@@ -82,6 +56,36 @@ module _ (world : LoadingWorld) (slot : ℕ) (load : loading.Load) (has : finmap
     -- and it is short
     pub short : IsLoadingWorld world → is_long entry.len ≡ false
     short is = subst (λ p. IfSome p (λ r. C.is_too_long r ≡ false)) (source_resource world load.handle load.place name entry s) (subst (λ p. IfSome p (C.IsLoad world slot)) has (is.loads slot)).short
+
+-- What gives a resource's object the bytes of its file is a fetch.
+module _ {honest : Type 0} (world : LoadingWorld) (is : C.IsLoadingOver honest world) (slot : ℕ) (load : loading.Load) (has : finmap.get world.loads slot ≡ Some load)
+    (name : List ℕ) (entry : Entry) (s : IsSourceAt world.modules load.handle load.place name entry) where
+  module _ (h : honest) where
+    of : (bytes : List ℕ) × IsFileOf world s.m bytes s.t
+    of = file_there world (is.1 h) load.handle load.place name entry s
+
+    known : IsSourceOf honest world name slot entry
+    known =
+        let few = short world slot load has name entry s is.0 in record {
+          truly = h;
+          file = of.0;
+          stored = ap (C.file_of world.files) (sym s.named) ∙ of.1.stored;
+          short = few;
+          inside = s.inside of.0 of.1.tables (some_bytes entry.len few);
+          sized = sized world slot load has name entry s is.0;
+        }
+
+  pub fetches : (later : ℕ) (fault : Option C.FetchFault) (new : C.Handles) → GivesSource honest world name entry later slot fault new
+      → C.FetchesFrom C.FillsFewest (told honest ne_format world.files world.failures later) world slot fault (C.with_handles world new)
+  unfolding known
+  fetches later fault new f = owned_fetch honest (IsSourceOf honest world name slot entry) known _ world slot (λ bytes sized read. (
+    inr (load.handle, load.place, s.m, here),
+    λ h. subst (C.IsImage ne_format world slot) (sym (read (known h)))
+        (inr (load.handle, load.place, s.m, here, C.resource_given world s.m (of h).0 s.t load.place (s.kind, entry) (of h).1 s.there)),
+  )) world.failures later fault new f
+    where
+      here : IsResourceOf world slot load.handle load.place s.m
+      here = record { loaded = s.loaded; loads = load.loads; has = has }
 
 -- The place of a resource by its type and name.
 label_same : (a b : tables.Label) → file.is_label (label_in a) (label_in b) ≡ tables.is_label a b

@@ -10,7 +10,8 @@ module _ (old : LoadingWorld) (handle : ℕ) where
   module _ (x : ℕ × loading.Load) (e : C.slot_of_resource old handle ≡ Some x) where
     module _ (le : x.1.loads ≤ 1) where
       last : C.free_resource old handle ≡ cond {A = ℕ × LoadingWorld} (C.nat_lt 0 (locks_at old.handles.heap x.0)) (1, old) (0, without_load old x.0)
-      last = ap (freed_by old) e ∙ ap (λ b. cond {A = ℕ × LoadingWorld} b (0, C.with_count old x.0 x.1 (x.1.loads - 1)) (cond {A = ℕ × LoadingWorld} (C.nat_lt 0 (locks_at old.handles.heap x.0)) (1, old) (0, without_load old x.0))) (C.le-ltb 1 x.1.loads le)
+      last = ap (freed_by old) e ∙ ap (λ b. cond {A = ℕ × LoadingWorld} b (0, C.with_count old x.0 x.1 (x.1.loads - 1))
+          (cond {A = ℕ × LoadingWorld} (C.nat_lt 0 (locks_at old.handles.heap x.0)) (1, old) (0, without_load old x.0))) (C.le-ltb 1 x.1.loads le)
 
       pub last_gone : locks_at old.handles.heap x.0 ≤ 0 → (0, record (C.with_handles old (C.without_slot old.handles x.0)) { loads = finmap.remove old.loads x.0 }) ≡ C.free_resource old handle
       last_gone none = (λ i. (0, record (slot_gone old x.0 i) { loads = finmap.remove old.loads x.0 }))
@@ -18,7 +19,8 @@ module _ (old : LoadingWorld) (handle : ℕ) where
 
 -- The low byte of GlobalFlags counts locks.
 pub lock_count : (h : C.Handles) → C.AreHandles h → (handle slot : ℕ) → C.slot_of_handle h handle ≡ Some slot → C.global_flags h handle % 256 ≡ locks_at h.heap slot
-lock_count h is handle slot e = ap (λ p. elim p as (λ _. ℕ) [ None ↦ 0 | Some s ↦ unwrap_or (option_map (C.flags_of (is_shared h s)) (C.object_at h.heap s)) 0 ] % 256) e ∙ by (C.object_at h.heap slot) (is.heap.counted slot)
+lock_count h is handle slot e = ap (λ p. elim p as (λ _. ℕ) [ None ↦ 0 | Some s ↦ unwrap_or (option_map (C.flags_of (is_shared h s)) (C.object_at h.heap s)) 0 ] % 256) e
+    ∙ by (C.object_at h.heap slot) (is.heap.counted slot)
   where
     low : (n : ℕ) → n ≤ 255 → (a b c : Bool) → (n + cond a 256 0 + cond b 8192 0 + cond c 0 16384) % 256 ≡ n
     low n le true true true = omega arith

@@ -1,10 +1,30 @@
 -- How the object of a resource gets the bytes of a file.
 use Rattle.w16_resource.proofs.Common as C
-use Rattle.w16_resource.proofs.Common.{Bool, GRAIN, Held, IsWritten, LARGEST_OWNED, List, Ok, [], ap, arith, drop, false, false≢true, length, refl, rounded_size, subst, suc, sym, take, true, zero, ℕ, ◌<◌, ◌==◌, ◌||◌, ◌∙◌, ◌≡◌, ◌≤◌, after, Store, Owned, Entry, is_long}
+use Rattle.w16_resource.proofs.Common.{Bool, GRAIN, Held, IsWritten, LARGEST_OWNED, List, Ok, [], ap, arith, drop, false, false≢true, length, refl, rounded_size, subst, suc, sym}
+use Rattle.w16_resource.proofs.Common.{take, true, zero, ℕ, ◌<◌, ◌==◌, ◌||◌, ◌∙◌, ◌≡◌, ◌≤◌, after, Store, Owned, Entry, is_long}
 use Rattle.w16_reloc.specs.Sound.{IsSound}
+use Rattle.w16_loader.specs.Fetching.{GivesOwned}
 use Rattle.std.specs.FinMap as finmap
 use Rattle.w16_reloc.specs.declared.fault.RelocFault.TheVariants as relocs
 use Rattle.w16_store.specs.declared.store.StoreFault.TheVariants as stores
+
+-- what a file of bytes gives to the object of a resource
+abbrev pub bytes_in : List ℕ → Entry → List ℕ
+bytes_in file entry = C.padded (take entry.len (drop entry.place file)) (rounded_size entry.len)
+
+-- Where the store is honest: the file of this name has bytes of a resource that may be loaded, and a slot's object is of its size.
+pub record IsSourceOf (honest : Type 0) (world : C.LoadingWorld) (name : List ℕ) (slot : ℕ) (entry : Entry) : Type 0 where
+  pub truly : honest
+  pub file : List ℕ
+  pub stored : C.file_of world.files name ≡ C.Some file
+  pub short : is_long entry.len ≡ false
+  pub inside : entry.place < length file
+  pub sized : C.owned_at world.handles slot ≡ C.Some (record { size = rounded_size entry.len; code = false })
+
+-- The object of a resource gets what its file gives it.
+abbrev pub GivesSource : Type 0 → C.LoadingWorld → List ℕ → Entry → ℕ → ℕ → C.Option C.FetchFault → C.Handles → Type 0
+GivesSource honest old name entry later slot fault new = GivesOwned (IsSourceOf honest old name slot entry)
+    (λ bytes. (s : IsSourceOf honest old name slot entry) → bytes ≡ bytes_in s.file entry) old.failures later old.handles slot fault new
 
 -- what was written with no records is the data, and zeros after them
 plain_image : (source bytes : List ℕ) (n : ℕ) → length source ≤ length bytes → length bytes ≡ n → IsWritten source [] [] bytes → C.padded source n ≡ bytes
@@ -39,8 +59,9 @@ has_some file place n short inside =
     omega (arith, some, cut, rest, inside)
 
 -- what was written is what its file gives it
-pub written_resource : {honest : Type 0} {files : List (List ℕ × List ℕ)} {name : List ℕ} {handles : C.Handles} {slot : ℕ} {entry : Entry} (s : C.IsSourceOf honest files name handles slot entry) (read : List ℕ)
-    → read ≡ take entry.len (drop entry.place s.file) → (bytes : List ℕ) → IsWritten read [] [] bytes → C.IsSomeAnd (C.owned_at handles slot) (λ w. length bytes ≡ w.size) → bytes ≡ C.bytes_in s.file entry
+pub written_resource : {honest : Type 0} {world : C.LoadingWorld} {name : List ℕ} {slot : ℕ} {entry : Entry} (s : IsSourceOf honest world name slot entry) (read : List ℕ)
+    → read ≡ take entry.len (drop entry.place s.file) → (bytes : List ℕ) → IsWritten read [] [] bytes
+    → C.IsSomeAnd (C.owned_at world.handles slot) (λ w. length bytes ≡ w.size) → bytes ≡ bytes_in s.file entry
 written_resource {entry = entry} s read same bytes are sized =
     let long = subst (λ p. C.IsSomeAnd p (λ w. length bytes ≡ w.size)) s.sized sized in
     let cut = C.length-take entry.len (drop entry.place s.file) in
@@ -48,7 +69,7 @@ written_resource {entry = entry} s read same bytes are sized =
     sym (plain_image (take entry.len (drop entry.place s.file)) bytes (rounded_size entry.len) (omega (arith, cut, up, long)) long (subst (λ bs. IsWritten bs [] [] bytes) same are))
 
 -- a failed read of what is there is the device's
-pub failed : {Y : Type 0} (before after : ℕ) (y : Y) (fault : C.RelocFault) → C.Refuses before after fault (Ok y) → C.fault_of fault ≡ Store
+pub failed : {Y : Type 0} (before after : ℕ) (y : Y) (fault : C.RelocFault) → C.Refuses before after fault (Ok y) → C.fetch_fault fault ≡ Store
 failed before after y (relocs.Store stores.Device) h = refl
 failed before after y (relocs.Store stores.Missing) h = absurd h
 failed before after y (relocs.Store stores.Short) h = absurd h

@@ -1,6 +1,7 @@
 -- The finite map of a list of loads by slot.
 use Rattle.w16_resource.proofs.Common as C
-use Rattle.w16_resource.proofs.Common.{Less, List, Load, None, Option, Some, [], ap, arith, by_id, cases_eq, drop, get_or, inl, inr, length, load_in, loads_in, nat_cmp, option_map, put, refl, same_values, set, sym, ℕ, ◌+◌, ◌<◌, ◌∙◌, ◌∷◌, ◌≡◌, ◌≤◌}
+use Rattle.w16_resource.proofs.Common.{Less, List, Load, None, Option, Some, [], ap, arith, by_id, cases_eq, drop, get_or, inl, inr, length, load_in, loads_in, nat_cmp}
+use Rattle.w16_resource.proofs.Common.{option_map, put, refl, same_values, set, sym, ℕ, ◌+◌, ◌<◌, ◌∙◌, ◌∷◌, ◌≡◌, ◌≤◌}
 use Rattle.std.specs.FinMap as finmap
 use Rattle.w16_loading.specs.Modules as loading
 
@@ -12,13 +13,15 @@ same_loads es fs same = same_values (loads_in es) (loads_in fs) (λ q. load_at e
 
 pub load_put : (es : List (Option Load)) (slot : ℕ) (l : Load) → slot < length es → loads_in (set es slot (Some l)) ≡ finmap.insert (loads_in es) slot (load_in l)
 load_put es slot l lt = same_values (loads_in (set es slot (Some l))) (finmap.insert (loads_in es) slot (load_in l)) (λ q. elim (cases_eq q slot) [
-  | inl e ↦ load_at (set es slot (Some l)) q ∙ ap (λ k. option_map load_in (get_or (set es slot (Some l)) k None)) e ∙ ap (option_map load_in) (C.get_or-set_same es slot (Some l) None lt) ∙ sym (C.inserted_here (loads_in es) slot (load_in l) q e)
+  | inl e ↦ load_at (set es slot (Some l)) q ∙ ap (λ k. option_map load_in (get_or (set es slot (Some l)) k None)) e
+      ∙ ap (option_map load_in) (C.get_or-set_same es slot (Some l) None lt) ∙ sym (C.inserted_here (loads_in es) slot (load_in l) q e)
   | inr d ↦ load_at (set es slot (Some l)) q ∙ ap (option_map load_in) (C.get_or-set_other es slot q (Some l) None d) ∙ sym (load_at es q) ∙ sym (C.inserted_other (loads_in es) slot (load_in l) q d)
 ])
 
 pub load_removed : (es : List (Option Load)) (slot : ℕ) → slot < length es → loads_in (set es slot None) ≡ finmap.remove (loads_in es) slot
 load_removed es slot lt = same_values (loads_in (set es slot None)) (finmap.remove (loads_in es) slot) (λ q. elim (cases_eq q slot) [
-  | inl e ↦ load_at (set es slot None) q ∙ ap (λ k. option_map load_in (get_or (set es slot None) k None)) e ∙ ap (option_map load_in) (C.get_or-set_same es slot None None lt) ∙ sym (C.taken_here (loads_in es) slot q e)
+  | inl e ↦ load_at (set es slot None) q ∙ ap (λ k. option_map load_in (get_or (set es slot None) k None)) e
+      ∙ ap (option_map load_in) (C.get_or-set_same es slot None None lt) ∙ sym (C.taken_here (loads_in es) slot q e)
   | inr d ↦ load_at (set es slot None) q ∙ ap (option_map load_in) (C.get_or-set_other es slot q None None d) ∙ sym (load_at es q) ∙ sym (C.taken_other (loads_in es) slot q d)
 ])
 

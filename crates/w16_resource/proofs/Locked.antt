@@ -15,9 +15,12 @@ module _ (F : C.Fetching) (old : LoadingWorld) (handle : ℕ) (reply : Reply) (n
     pub has_bytes : (bytes : List ℕ) → bytes_at old.handles.heap x.0 ≡ Some bytes → (reply, new) ≡ locked old handle → LocksResource F old handle reply new
     has_bytes bytes some h = subst (λ p. MatchOption p ((reply ≡ Dword 0) × (new ≡ old)) (λ (x : ℕ × loading.Load). Locked x (bytes_at old.handles.heap x.0))) (sym e) (subst (Locked x) (sym some) h)
 
-    pub is_fetched : bytes_at old.handles.heap x.0 ≡ None → (fault : Option C.FetchFault) (next : LoadingWorld) → F old x.0 fault next → (reply, new) ≡ C.lock_outcome fault handle next → LocksResource F old handle reply new
-    is_fetched none fault next f h = subst (λ p. MatchOption p ((reply ≡ Dword 0) × (new ≡ old)) (λ (x : ℕ × loading.Load). Locked x (bytes_at old.handles.heap x.0))) (sym e) (subst (Locked x) (sym none) (fault, next, f, h))
+    pub is_fetched : bytes_at old.handles.heap x.0 ≡ None → (fault : Option C.FetchFault) (next : LoadingWorld)
+        → F old x.0 fault next → (reply, new) ≡ C.lock_outcome fault handle next → LocksResource F old handle reply new
+    is_fetched none fault next f h = subst (λ p. MatchOption p ((reply ≡ Dword 0) × (new ≡ old)) (λ (x : ℕ × loading.Load). Locked x (bytes_at old.handles.heap x.0)))
+        (sym e) (subst (Locked x) (sym none) (fault, next, f, h))
 
 -- GlobalLock's outcome is the lock's
-pub lock_is : (world : LoadingWorld) (handle answer : ℕ) (next : C.Handles) → Gives (C.global_lock world.handles handle) (calls.Answer.Dword answer) next → (Dword answer, C.with_handles world next) ≡ locked world handle
+pub lock_is : (world : LoadingWorld) (handle answer : ℕ) (next : C.Handles) → Gives (C.global_lock world.handles handle) (calls.Answer.Dword answer) next
+    → (Dword answer, C.with_handles world next) ≡ locked world handle
 lock_is world handle answer next g = λ i. (C.reply_of_call (g.0 i), C.with_handles world (g.1 i))

@@ -1,6 +1,7 @@
 -- A resource that a handle names: its slot, and whether it has bytes.
 use Rattle.w16_resource.proofs.Common as C
-use Rattle.w16_resource.proofs.Common.{Bool, Handles, IsSomeAnd, List, None, Option, Some, ap, bytes_at, cond, false, false≢true, handle_of, is_some, length, option_map, refl, selector_of, slot_of_handle, slot_of_selector, subst, sym, true, ℕ, ◌/◌, ◌==◌, ◌∙◌, ◌≡◌}
+use Rattle.w16_resource.proofs.Common.{Bool, Handles, IsSomeAnd, List, None, Option, Some, ap, bytes_at, cond, false, false≢true, handle_of, is_some, length, option_map, refl}
+use Rattle.w16_resource.proofs.Common.{selector_of, slot_of_handle, slot_of_selector, subst, sym, true, ℕ, ◌/◌, ◌==◌, ◌∙◌, ◌≡◌}
 use Rattle.w16_global.specs.declared.lend.Segment.{Segment}
 use Rattle.std.specs.FinMap as finmap
 use Rattle.w16_loading.specs.Modules as loading
@@ -32,7 +33,8 @@ module _ (world : C.LoadingWorld) (handle : ℕ) (x : ℕ × loading.Load) (foun
       of_load slot None e = cc
       of_load slot (Some load) e = let same : ◌≡◌ {A = ℕ × loading.Load} (slot, load) x = cc in ap (λ (y : ℕ × loading.Load). y.0) same
 
-      by : (p : Option ℕ) → slot_of_handle world.handles handle ≡ p → ◌≡◌ {A = Option (ℕ × loading.Load)} (elim p [ None ↦ None | Some slot ↦ option_map (λ load. (slot, load)) (finmap.get world.loads slot) ]) (Some x)
+      by : (p : Option ℕ) → slot_of_handle world.handles handle ≡ p
+          → ◌≡◌ {A = Option (ℕ × loading.Load)} (elim p [ None ↦ None | Some slot ↦ option_map (λ load. (slot, load)) (finmap.get world.loads slot) ]) (Some x)
           → slot_of_handle world.handles handle ≡ Some x.0
       by None e f = cc
       by (Some slot) e f = e ∙ ap Some (of_load slot (finmap.get world.loads slot) f)
@@ -59,7 +61,8 @@ module _ (h : Handles) (n s sel : ℕ) (found : slot_of_handle h n ≡ Some s) (
   finds : slot_of_selector h sel ≡ Some s
   finds = ap (slot_of_selector h) is ∙ selector_finds h n s found
 
-  pub present : (p : Option Segment) → C.IfSome p (λ g. (slot_of_selector h sel ≡ Some g.slot) × (option_map length (bytes_at h.heap g.slot) ≡ Some g.size)) → is_some p ≡ true → (bytes : List ℕ) × (bytes_at h.heap s ≡ Some bytes)
+  pub present : (p : Option Segment) → C.IfSome p (λ g. (slot_of_selector h sel ≡ Some g.slot) × (option_map length (bytes_at h.heap g.slot) ≡ Some g.size))
+      → is_some p ≡ true → (bytes : List ℕ) × (bytes_at h.heap s ≡ Some bytes)
   present None told e = absurd (false≢true e)
   present (Some g) told e = by (bytes_at h.heap s) refl (subst (λ q. option_map length (bytes_at h.heap q) ≡ Some g.size) (same (sym told.0 ∙ finds)) told.1)
     where

@@ -1,7 +1,8 @@
 -- The resources of modules that are gone go slot by slot, or all at once.
 use Rattle.w16_resource.proofs
 use proofs.Common as C
-use proofs.Common.{Bool, List, LoadingWorld, None, Some, [], ap, arith, cases_eq, cond, false, filter, inl, inr, is_left_over, is_some, not, refl, retained, subst, sym, true, with_handles, without_load, without_orphan, without_orphans, without_slot, ℕ, ◌+◌, ◌<◌, ◌==◌, ◌||◌, ◌∙◌, ◌∷◌, ◌≡◌}
+use proofs.Common.{Bool, List, LoadingWorld, None, Some, [], ap, arith, cases_eq, cond, false, filter, inl, inr, is_left_over, is_some, not, refl, retained, subst, sym}
+use proofs.Common.{true, with_handles, without_load, without_orphan, without_orphans, without_slot, ℕ, ◌+◌, ◌<◌, ◌==◌, ◌||◌, ◌∙◌, ◌∷◌, ◌≡◌}
 use proofs.Common.{◌≤◌}
 use proofs.Taken.{one_gone, slot_gone}
 use Rattle.std.specs.FinMap as finmap

@@ -1,14 +1,23 @@
 -- A new object for a resource, and an object that goes.
 use Rattle.w16_resource.proofs.Common as C
-use Rattle.w16_resource.proofs.Common.{FinMap, Fixed, Kind, List, None, Object, Option, Owned, Some, ap, arith, cases_eq, false, false≢true, handle_of, inl, inr, is_some, nat_cmp, not, refl, same_values, subst, sym, taken_here, taken_other, with_new, ℕ, ◌/◌, ◌==◌, ◌∙◌, ◌≡◌}
+use Rattle.w16_resource.proofs.Common.{FinMap, Fixed, Kind, List, None, Object, Option, Owned, Some, ap, arith, cases_eq, false, false≢true, handle_of, inl, inr, is_some, nat_cmp}
+use Rattle.w16_resource.proofs.Common.{not, refl, same_values, subst, sym, taken_here, taken_other, ℕ, ◌/◌, ◌==◌, ◌∙◌, ◌≡◌}
 use Rattle.std.specs.FinMap as finmap
+
+-- the handles with a new object for a resource
+abbrev pub with_new : C.Handles → ℕ → C.Resource → C.Handles
+with_new handles slot r = record handles {
+  heap = C.with_object handles.heap slot (record { kind = r.kind; locks = 0; bytes = None });
+  attributes = finmap.insert handles.attributes slot (C.attributes_for r);
+}
 
 slot_of_name : (kind : Kind) (slot handle : ℕ) → handle ≡ handle_of kind slot → handle / 8 ≡ slot
 slot_of_name Fixed slot handle named = omega arith
 slot_of_name C.Moveable slot handle named = omega arith
 slot_of_name C.Discardable slot handle named = omega arith
 
-module _ (old new : C.Handles) (kind : Kind) (owned : Owned) (handle : ℕ) (t : C.TakesOwned old kind owned handle new) (r : C.Resource) (same : kind ≡ r.kind) (owns : owned ≡ record { size = C.rounded_size r.length_in; code = false }) where
+module _ (old new : C.Handles) (kind : Kind) (owned : Owned) (handle : ℕ) (t : C.TakesOwned old kind owned handle new) (r : C.Resource)
+    (same : kind ≡ r.kind) (owns : owned ≡ record { size = C.rounded_size r.length_in; code = false }) where
   pub here : handle / 8 ≡ t.slot
   here = slot_of_name kind t.slot handle t.named
 
@@ -16,7 +25,17 @@ module _ (old new : C.Handles) (kind : Kind) (owned : Owned) (handle : ℕ) (t :
   named = t.named ∙ ap (λ k. handle_of k t.slot) same
 
   pub taken : new ≡ with_new old t.slot r
-  taken = t.rest ∙ (λ i. record old { heap = (t.entered.entered ∙ (λ j. C.with_object old.heap t.slot (record { kind = same j; locks = 0; bytes = None }))) i; attributes = finmap.insert old.attributes t.slot (record { shared = false; owned = Some (owns i); slots = 1 }) })
+  taken = t.rest ∙ (λ i. record old {
+    heap = (t.entered.entered ∙ (λ j. C.with_object old.heap t.slot (record { kind = same j; locks = 0; bytes = None }))) i;
+    attributes = finmap.insert old.attributes t.slot (record { shared = false; owned = Some (owns i); slots = 1 });
+  })
+
+-- what is put in and taken out again
+pub back : {X : Type 0} (m : FinMap nat_cmp X) (slot : ℕ) (x : X) → finmap.get m slot ≡ None → finmap.remove (finmap.insert m slot x) slot ≡ m
+back m slot x none = same_values (finmap.remove (finmap.insert m slot x) slot) m (λ q. elim (cases_eq q slot) [
+  | inl e ↦ taken_here (finmap.insert m slot x) slot q e ∙ sym (ap (finmap.get m) e ∙ none)
+  | inr d ↦ taken_other (finmap.insert m slot x) slot q d ∙ C.inserted_other m slot x q d
+])
 
 -- it lacks its bytes
 module _ (old : C.Handles) (slot : ℕ) (r : C.Resource) where
@@ -40,12 +59,6 @@ module _ (old : C.Handles) (slot : ℕ) (r : C.Resource) where
       here = slot_of_name r.kind slot handle named
 
   -- taken away again, it leaves the same handles
-  back : {X : Type 0} (m : FinMap nat_cmp X) (x : X) → finmap.get m slot ≡ None → finmap.remove (finmap.insert m slot x) slot ≡ m
-  back m x none = same_values (finmap.remove (finmap.insert m slot x) slot) m (λ q. elim (cases_eq q slot) [
-    | inl e ↦ taken_here (finmap.insert m slot x) slot q e ∙ sym (ap (finmap.get m) e ∙ none)
-    | inr d ↦ taken_other (finmap.insert m slot x) slot q d ∙ C.inserted_other m slot x q d
-  ])
-
   unset : {X : Type 0} (m : FinMap nat_cmp X) → finmap.get m slot ≡ None → finmap.remove m slot ≡ m
   unset m none = same_values (finmap.remove m slot) m (λ q. elim (cases_eq q slot) [
     | inl e ↦ taken_here m slot q e ∙ sym (ap (finmap.get m) e ∙ none)
@@ -59,11 +72,12 @@ module _ (old : C.Handles) (slot : ℕ) (r : C.Resource) where
   pub taken_back : C.AreHandles old → C.object_at old.heap slot ≡ None → C.without_slot (with_new old slot r) slot ≡ old
   taken_back is none = λ i. record old {
     heap = record old.heap {
-      objects = back old.heap.objects entered none i;
-      places = unset old.heap.places (none_of (finmap.get old.heap.places slot) (is.heap.at_bytes slot ∙ ap (λ p. is_some (elim p as (λ _. Option (List ℕ)) [ Some o ↦ o.bytes | None ↦ None ])) none)) i;
+      objects = back old.heap.objects slot entered none i;
+      places = unset old.heap.places (none_of (finmap.get old.heap.places slot)
+          (is.heap.at_bytes slot ∙ ap (λ p. is_some (elim p as (λ _. Option (List ℕ)) [ Some o ↦ o.bytes | None ↦ None ])) none)) i;
       order = C.without_absent slot old.heap.order (is.heap.in_order slot ∙ ap C.is_in_order none) i;
     };
-    attributes = back old.attributes (C.attributes_for r) (none_of (finmap.get old.attributes slot) (is.attributed slot ∙ ap is_some none)) i;
+    attributes = back old.attributes slot (C.attributes_for r) (none_of (finmap.get old.attributes slot) (is.attributed slot ∙ ap is_some none)) i;
   }
 
 -- One object goes, or all of one slot.

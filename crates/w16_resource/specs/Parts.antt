@@ -1,8 +1,10 @@
 -- The world of modules over the parts of the machine that keep it, and what a call over a store answers.
-use Rattle.std.specs.Prelude.{ℕ, List, Result, Ok, Err}
+use Rattle.std.specs.Prelude.{ℕ, List, Option, Result, Ok, Err}
 use Rattle.std.specs.{Ordering.nat_cmp, FinMap.FinMap}
 use Rattle.w16_model.specs.Handles.{Handles}
-use Rattle.w16_loading.specs.{declared.FetchFault.FetchFault, Law.IsLoadingWorld, Law.IsOfFiles, Modules.Load, Modules.LoadingWorld, Modules.Modules, Replies.Reply, Replies.Reply.Word, Replies.Reply.Dword, Replies.Reply.Failed}
+use Rattle.w16_loading.specs.{declared.FetchFault.FetchFault, Answers.FetchesFrom, Answers.told, Fewest.FillsFewest}
+use Rattle.w16_loading.specs.{Law.IsLoadingWorld, Law.IsOfFiles, Modules.Load, Modules.LoadingWorld, Modules.Modules}
+use Rattle.w16_loading.specs.{Replies.Reply, Replies.Reply.Word, Replies.Reply.Dword, Replies.Reply.Failed}
 use Rattle.w16_format.specs.Ne.{ne_format}
 
 -- the world that these parts are
@@ -12,6 +14,11 @@ loading_of handles modules loads files failures = record { handles = handles; mo
 -- What holds of each world over a store: it is one; and where the store is honest, all that is loaded is of its file.
 abbrev pub IsLoadingOver : Type 0 → LoadingWorld → Type 0
 IsLoadingOver honest world = IsLoadingWorld world × (honest → IsOfFiles ne_format world)
+
+-- a fetch over a store, by a request that discards as few objects as it can
+abbrev pub FetchesResource : Type 0 → LoadingWorld → ℕ → Option FetchFault → LoadingWorld → Type 0
+FetchesResource honest old slot fault new =
+    FetchesFrom FillsFewest (told honest ne_format old.files old.failures new.failures) old slot fault (record new { failures = old.failures })
 
 -- the reply of a call that answers a word, or why an object got no bytes
 abbrev pub word_in : Result ℕ FetchFault → Reply

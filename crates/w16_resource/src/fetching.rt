@@ -6,22 +6,20 @@ ghost use Rattle.w16_store.specs.Later.{IsLater, RoseIf};
 ghost use Rattle.w16_ne.specs.Resources.{entry_of};
 ghost use Rattle.w16_global.specs.Owned.{LacksBytes};
 ghost use Rattle.w16_loading.specs.declared.FetchFault.TheVariants.{Store as store_fails};
-ghost use Rattle.w16_loading.specs.{Answers.FetchesFrom, Answers.told, Fewest.FillsFewest};
 ghost use Rattle.w16_loading.specs.Fill.{is_of_read};
 ghost use Rattle.w16_loading.specs.Modules.{LoadingWorld};
 ghost use Rattle.w16_loading.specs.Resource.{resource_at};
-ghost use Rattle.w16_format.specs.Ne.{ne_format};
 ghost use Rattle.w16_loader.specs.Fetching.{fault_in};
 ghost use Rattle.w16_loader.specs.Registry.{in_world};
-ghost use Rattle.w16_resource.specs.Parts.{IsLoadingOver, loading_of};
-ghost use Rattle.w16_resource.specs.Sources.{GivesSource, IsSourceAt, is_long};
+ghost use Rattle.w16_resource.specs.Parts.{FetchesResource, IsLoadingOver};
+ghost use Rattle.w16_resource.specs.Sources.{IsSourceAt, is_long};
 ghost use Rattle.w16_loader.specs.Devices.{is_of_device};
 
 use crate::finding::{ResourceSource, source_of};
+use crate::parts::Loading;
 use crate::resources::Resources;
 use std::alloc::Allocator;
-use w16_global::Global16;
-use w16_loader::{Registry, SegmentWork, fault_of, give};
+use w16_loader::{Registry, SegmentWork, fetch_fault, give_bytes};
 use w16_loading::{FetchFault, LARGEST_OWNED};
 use w16_model::names::slot_of;
 use w16_reloc::{Scratch, read_part};
@@ -60,7 +58,7 @@ pub(crate) fn read<S: Store, A: Allocator>(
         resource.len as usize,
         scratch,
     ) {
-        return Err(fault_of(fault));
+        return Err(fetch_fault(fault));
     }
     if scratch.bytes().is_empty() {
         return Err(FetchFault::Damaged);
@@ -68,70 +66,45 @@ pub(crate) fn read<S: Store, A: Allocator>(
     Ok(())
 }
 
-/// Gives an object that a module owns, and that has no bytes, those of a resource, and zeros after them. They are read before room is asked for.
-pub(crate) fn fetch_from<S: Store, A: Allocator + Copy>(
-    source: &ResourceSource<'_>,
-    global: &mut Global16<A>,
-    store: &mut S,
-    scratch: &mut Scratch<A>,
-    handle: u16,
-) -> Result<(), FetchFault>
-    ensures stays { IsLater (S.files store.old) (S.failures store.old) (S.files store.new) (S.failures store.new) }
-    ensures device { IfErr result (RoseIf is_of_device (S.failures store.old) (S.failures store.new)) }
-    ensures refused { OnErr result (global.new ≡ global.old) }
-    ensures named { OnOk result (LacksBytes global.old.handles handle) }
-    ensures given { LacksBytes global.old.handles handle
-        → GivesSource S.is_honest (S.files store.old) source.now.file.now (entry_of source.now.resource) (S.failures store.old) (S.failures store.new) global.old.handles (handle / 8) (fault_in result) global.new.handles }
-{
-    global.reveal_handles();
-    read(source, store, scratch)?;
-    let work = SegmentWork {
-        data: scratch.bytes(),
-        records: &[],
-        values: &[],
-    };
-    if give(global, handle, &work) {
-        Ok(())
-    } else {
-        Err(FetchFault::NoRoom)
-    }
-}
-
-impl<A: Allocator + Copy> Resources<A> {
+impl<S: Store + Drop, A: Allocator + Copy> Loading<S, A> {
     /// Gives the object of a resource, which has no bytes, those of its file, and zeros after them. The file is read before room is asked for.
     ///
     /// Others slide and are discarded for it, as few as can be, as for an allocation with no flags; a discardable object becomes the newest in the
     /// order of use. `Store` where the store's device failed; `Damaged` where the file reads otherwise than it did when the module was loaded;
     /// `NoRoom` where no gap could hold it. After each of these the heap is as it was; so it is after an error for a handle that names no resource
     /// without bytes. The scratch holds anything afterwards.
-    pub fn fetch<S: Store>(
-        &self,
-        registry: &Registry<A>,
-        global: &mut Global16<A>,
-        store: &mut S,
-        scratch: &mut Scratch<A>,
-        handle: u16,
-    ) -> Result<(), FetchFault>
-        ensures step { IsLoadingOver S.is_honest (loading_of global.old.handles registry.now self.now (S.files store.old) (S.failures store.old))
-            → LacksBytes global.old.handles handle → IsSome (finmap.get self.now (handle / 8))
-            → FetchesFrom FillsFewest (told S.is_honest ne_format (S.files store.old) (S.failures store.old) (S.failures store.new))
-            (loading_of global.old.handles registry.now self.now (S.files store.old) (S.failures store.old)) (handle / 8) (fault_in result)
-            (loading_of global.new.handles registry.now self.now (S.files store.old) (S.failures store.old)) }
-        ensures refused { OnErr result (global.new ≡ global.old) }
-        ensures named { OnOk result (LacksBytes global.old.handles handle) }
-        ensures stays { IsLater (S.files store.old) (S.failures store.old) (S.files store.new) (S.failures store.new) }
-        ensures device { IfErr result (RoseIf is_of_device (S.failures store.old) (S.failures store.new)) }
+    pub fn fetch_resource(&mut self, handle: u16) -> Result<(), FetchFault>
+        ensures step { IsLoadingOver S.is_honest self.old → LacksBytes self.old.handles handle → IsSome (finmap.get self.old.loads (handle / 8))
+            → FetchesResource S.is_honest self.old (handle / 8) (fault_in result) self.new }
+        ensures refused { OnErr result (self.new.handles ≡ self.old.handles) }
+        ensures named { OnOk result (LacksBytes self.old.handles handle) }
+        ensures stays { IsLater self.old.files self.old.failures self.new.files self.new.failures }
+        ensures device { IfErr result (RoseIf is_of_device self.old.failures self.new.failures) }
     {
-        match self.source_at(registry, slot_of(handle)) {
-            None => Err(FetchFault::Damaged),
-            Some(source) => fetch_from(&source, global, store, scratch, handle),
+        self.global.reveal_handles();
+        let Some(source) = self.resources.source_at(&self.registry, slot_of(handle)) else {
+            return Err(FetchFault::Damaged);
+        };
+        read(&source, &mut self.store, &mut self.scratch)?;
+        let work = SegmentWork {
+            data: self.scratch.bytes(),
+            records: &[],
+            values: &[],
+        };
+        if !give_bytes(&mut self.global, handle, &work) {
+            return Err(FetchFault::NoRoom);
         }
+        Ok(())
     }
+}
 
+impl<A: Allocator + Copy> Resources<A> {
     /// Where the bytes of a slot's resource come from; none where none is loaded there.
     fn source_at<'a>(&self, registry: &'a Registry<A>, slot: u16) -> Option<ResourceSource<'a>>
-        ensures found { IfSome result (λ source. IsSomeAnd (finmap.get self.now slot) (λ load. IsSourceAt registry.now load.handle load.place source.file.now (entry_of source.resource))) }
-        ensures none { IfNone result (IfSome (finmap.get self.now slot) (λ load. (rest : LoadingWorld) → resource_at (in_world rest registry.now) load.handle load.place ≡ None)) }
+        ensures found { IfSome result (λ source. IsSomeAnd (finmap.get self.now slot)
+            (λ load. IsSourceAt registry.now load.handle load.place source.file.now (entry_of source.resource))) }
+        ensures none { IfNone result (IfSome (finmap.get self.now slot)
+            (λ load. (rest : LoadingWorld) → resource_at (in_world rest registry.now) load.handle load.place ≡ None)) }
     {
         let load = self.load_at(slot)?;
         source_of(registry, load.handle, load.place)

@@ -7,8 +7,10 @@ mod freeing;
 mod listing;
 mod loading;
 mod locking;
+mod parts;
 mod resources;
 
 pub use finding::{find_resource, size_of_resource};
 pub use listing::Load;
+pub use parts::Loading;
 pub use resources::Resources;

@@ -8,17 +8,14 @@ ghost use Rattle.w16_loading.specs.Modules.{LoadingWorld};
 ghost use Rattle.w16_loading.specs.Resource.{lock_outcome, slot_of_resource};
 ghost use Rattle.w16_format.specs.Ne.{ne_format};
 ghost use Rattle.w16_resource.specs.Loads.{load_in};
-ghost use Rattle.w16_resource.specs.Parts.{IsLoadingOver, loading_of, dword_in};
+ghost use Rattle.w16_resource.specs.Parts.{IsLoadingOver, dword_in};
 ghost use Rattle.w16_loader.specs.Devices.{is_of_device};
 
 use crate::listing::Load;
-use crate::resources::Resources;
+use crate::parts::Loading;
 use std::alloc::Allocator;
-use w16_global::Global16;
-use w16_loader::Registry;
 use w16_loading::FetchFault;
 use w16_model::names::selector_of;
-use w16_reloc::Scratch;
 use w16_store::Store;
 
 /// What a lock answers where the object got no bytes.
@@ -32,42 +29,33 @@ fn refusal(fault: FetchFault) -> Result<u32, FetchFault>
     }
 }
 
-impl<A: Allocator + Copy> Resources<A> {
+impl<S: Store + Drop, A: Allocator + Copy> Loading<S, A> {
     /// `LockResource`: as `GlobalLock`, a far pointer to the first byte of a resource's object, which is fetched before where it has no bytes. 0 for
     /// a handle of no resource, and where there is no room for it. An error is why it got no bytes otherwise.
-    pub fn lock<S: Store>(
-        &self,
-        registry: &Registry<A>,
-        global: &mut Global16<A>,
-        store: &mut S,
-        scratch: &mut Scratch<A>,
-        handle: u16,
-    ) -> Result<u32, FetchFault>
-        ensures step { IsLoadingOver S.is_honest (loading_of global.old.handles registry.now self.now (S.files store.old) (S.failures store.old))
-            → FewestOver S.is_honest ne_format (loading_of global.old.handles registry.now self.now (S.files store.old) (S.failures store.old)) (OfResources (LockResource handle)) (dword_in result)
-            (loading_of global.new.handles registry.now self.now (S.files store.new) (S.failures store.new)) }
-        ensures stays { IsLater (S.files store.old) (S.failures store.old) (S.files store.new) (S.failures store.new) }
-        ensures device { IfErr result (RoseIf is_of_device (S.failures store.old) (S.failures store.new)) }
+    pub fn lock_resource(&mut self, handle: u16) -> Result<u32, FetchFault>
+        ensures step { IsLoadingOver S.is_honest self.old → FewestOver S.is_honest ne_format self.old (OfResources (LockResource handle)) (dword_in result) self.new }
+        ensures stays { IsLater self.old.files self.old.failures self.new.files self.new.failures }
+        ensures device { IfErr result (RoseIf is_of_device self.old.failures self.new.failures) }
     {
-        let Some((slot, _)) = self.named(global, handle) else {
+        let Some((slot, _)) = self.named(handle) else {
             return Ok(0);
         };
-        if global.segment(selector_of(slot)).is_some() {
-            return Ok(global.global_lock(handle));
+        if self.global.segment(selector_of(slot)).is_some() {
+            return Ok(self.global.global_lock(handle));
         }
-        match self.fetch(registry, global, store, scratch, handle) {
-            Ok(()) => Ok(global.global_lock(handle)),
+        match self.fetch_resource(handle) {
+            Ok(()) => Ok(self.global.global_lock(handle)),
             Err(fault) => refusal(fault),
         }
     }
 
     /// The slot and the load of the resource whose object's handle this is, exactly; none where it is no resource's.
-    pub(crate) fn named(&self, global: &Global16<A>, handle: u16) -> Option<(u16, Load)>
-        ensures named { (rest : LoadingWorld) → option_map (λ found. (found.0, load_in found.1)) result ≡ slot_of_resource (record rest { handles = global.now.handles; loads = self.now }) handle }
+    pub(crate) fn named(&self, handle: u16) -> Option<(u16, Load)>
+        ensures named { option_map (λ found. (found.0, load_in found.1)) result ≡ slot_of_resource self.now handle }
         ensures few { IfSome result (λ found. found.0 < 8192) }
     {
-        let slot = global.slot_of_handle(handle)?;
-        let load = self.load_at(slot)?;
+        let slot = self.global.slot_of_handle(handle)?;
+        let load = self.resources.load_at(slot)?;
         Some((slot, load))
     }
 }

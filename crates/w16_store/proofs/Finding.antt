@@ -1,8 +1,8 @@
 -- Files that are found by name.
-use Rattle.std.proofs.Common.{◌≡◌, ℕ, zero, suc, ◌+◌, ◌<◌, ◌≤◌, Bool, true, false, cond, List, [], ◌∷◌, ◌++◌, Option, Some, None, Ok, Err, length, get_or, position, refl, sym, ap, ◌∙◌, subst, arith, ltb}
+use Rattle.std.proofs.Common.{not, filter, ◌≡◌, ℕ, zero, suc, ◌+◌, ◌<◌, ◌≤◌, Bool, true, false, cond, List, [], ◌∷◌, ◌++◌, Option, Some, None, Ok, Err, length, get_or, position, refl, sym, ap, ◌∙◌, subst, arith, ltb}
 use Rattle.std.proofs.{Math.ListN.set, lemmas.Bool.Decides.nat_tests, lemmas.List.Sums.fails_before_first}
 use Rattle.std.specs.{Prelude.option_map, Prelude.unwrap_or, List.find, List.position_or_len}
-use Rattle.w16_store.specs.{declared.memory.File.File, Names.is_named, Files.file_of, Files.bytes_of, Files.length_of, Files.AreWith, Files.HasBytes, declared.store.StoreFault.TheVariants.Short, Memory.files_in, Folder.content_of, Folder.listed, Folder.IsHonestRead}
+use Rattle.w16_store.specs.{declared.memory.File.File, Names.is_named, Files.file_of, Files.bytes_of, Files.length_of, Files.AreWith, Files.AreWithout, Files.HasBytes, declared.store.StoreFault.TheVariants.Short, Memory.files_in, Folder.content_of, Folder.listed, Folder.IsHonestRead}
 use Rattle.w16_store.proofs.Naming.{named_alike, named_by}
 
 -- By recursion.
@@ -64,6 +64,29 @@ with_added name bytes (f ∷ fs) g none e b n =
     let rest = with_added name bytes fs g (λ k d h. none (suc k) d (omega arith)) e b n in
     rw (file_of-cons (f.name.items, f.bytes.items) (files_in (fs ++ g ∷ [])) n, file_of-cons (f.name.items, f.bytes.items) (files_in fs) n, rest)
     (passed_by (is_named f.name.items n) (is_named name n) f.bytes.items bytes (file_of (files_in fs) n) (λ t. sym (named_by f.name.items name n t) ∙ none 0 f (omega arith)))
+
+dropped : (a b : Bool) (x : List ℕ) (rest : Option (List ℕ)) → (b ≡ true → a ≡ false) → cond a (Some x) (cond b None rest) ≡ cond b None (cond a (Some x) rest)
+dropped a true x rest h = rw (h refl) refl
+dropped a false x rest h = refl
+
+none : (b : Bool) → None ≡ cond {A = Option (List ℕ)} b None None
+none true = refl
+none false = refl
+
+twice : (b : Bool) (x : List ℕ) (rest : Option (List ℕ)) → cond b None rest ≡ cond b None (cond b (Some x) rest)
+twice true x rest = refl
+twice false x rest = refl
+
+pub with_removed : (name : List ℕ) (files : List File) → AreWithout name (files_in files) (files_in (filter (λ (f : File). not (is_named f.name.items name)) files))
+with_removed name [] n = rw (file_of-nil n) (none (is_named name n))
+with_removed name (f ∷ fs) n = turn (is_named f.name.items name) refl (with_removed name fs n)
+  where
+    turn : (b : Bool) → is_named f.name.items name ≡ b → file_of (files_in (filter (λ (g : File). not (is_named g.name.items name)) fs)) n ≡ cond (is_named name n) None (file_of (files_in fs) n)
+        → file_of (files_in (cond {A = List File} (not b) (f ∷ filter (λ (g : File). not (is_named g.name.items name)) fs) (filter (λ (g : File). not (is_named g.name.items name)) fs))) n
+        ≡ cond (is_named name n) None (file_of (files_in (f ∷ fs)) n)
+    turn true e rest = rw (rest, file_of-cons (f.name.items, f.bytes.items) (files_in fs) n, named_alike f.name.items name n e) (twice (is_named name n) f.bytes.items (file_of (files_in fs) n))
+    turn false e rest = rw (file_of-cons (f.name.items, f.bytes.items) (files_in (filter (λ (g : File). not (is_named g.name.items name)) fs)) n, file_of-cons (f.name.items, f.bytes.items) (files_in fs) n, rest)
+        (dropped (is_named f.name.items n) (is_named name n) f.bytes.items (file_of (files_in fs) n) (λ t. sym (named_by f.name.items name n t) ∙ e))
 
 -- In a folder.
 

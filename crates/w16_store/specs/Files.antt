@@ -35,6 +35,10 @@ IsMissing file fault = fault ≡ Missing → file ≡ None
 abbrev pub AreWith : List ℕ → List ℕ → List (List ℕ × List ℕ) → List (List ℕ × List ℕ) → Type 0
 AreWith name bytes old new = (n : List ℕ) → file_of new n ≡ (if is_named name n then Some bytes else file_of old n)
 
+-- the new files are the old ones without that of this name
+abbrev pub AreWithout : List ℕ → List (List ℕ × List ℕ) → List (List ℕ × List ℕ) → Type 0
+AreWithout name old new = (n : List ℕ) → file_of new n ≡ (if is_named name n then None else file_of old n)
+
 -- a file, if there is one, has bytes
 abbrev pub HasBytes : Option (List ℕ) → Type 0
 HasBytes file = IfSome file (λ bytes. All (λ b. b < 256) bytes)

@@ -1,7 +1,7 @@
 //! Files in memory.
-ghost use Rattle.std.specs.Prelude.{◌≡◌, ℕ, ◌≤◌, length, List, [], Some, OnOk, OnErr, position, option_map};
+ghost use Rattle.std.specs.Prelude.{◌≡◌, ℕ, ◌≤◌, length, List, [], Some, OnOk, OnErr, IsFalse, IsTrue, filter, is_some, not, position, option_map};
 ghost use Rattle.w16_store.specs.Names.{is_named};
-ghost use Rattle.w16_store.specs.Files.{file_of, bytes_of, length_of, IsHonestAnswer, AreWith};
+ghost use Rattle.w16_store.specs.Files.{file_of, bytes_of, length_of, IsHonestAnswer, AreWith, AreWithout};
 ghost use Rattle.w16_store.specs.Memory.{files_in};
 
 use crate::name::is_named;
@@ -56,6 +56,19 @@ impl MemStore {
         self.files.push(File { name, bytes })?;
         Ok(())
     }
+
+    /// No file has that name from now on; whether one had it.
+    pub fn remove(&mut self, name: &[u8]) -> bool
+        ensures had { result ≡ is_some (file_of self.old name.now) }
+        ensures gone { IsTrue result → AreWithout name.now self.old self.new }
+        ensures kept { IsFalse result → self.new ≡ self.old }
+    {
+        if bytes_of(self.files.as_slice(), name).is_none() {
+            return false;
+        }
+        drop_named(&mut self.files, name);
+        true
+    }
 }
 
 /// The first file of a name.
@@ -65,6 +78,13 @@ fn place_of(files: &[File], name: &[u8]) -> Option<usize>
     files
         .iter()
         .position(|file| is_named(file.name.as_slice(), name))
+}
+
+/// Drops all files of a name.
+fn drop_named(files: &mut Vec<File>, name: &[u8])
+    ensures { files.new.items ≡ filter (λ f. not (is_named f.name.items name.now)) files.old.items }
+{
+    files.retain(|file| !is_named(file.name.as_slice(), name));
 }
 
 fn bytes_of<'a>(files: &'a [File], name: &[u8]) -> Option<&'a [u8]>

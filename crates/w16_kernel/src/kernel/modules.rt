@@ -1,10 +1,12 @@
 //! Questions on modules that are loaded.
-ghost use Rattle.std.specs.Prelude.{◌≡◌, ◌+◌, ◌<◌, ◌≤◌, ℕ, IfNone, IfSome, IsSome, None, option_and_then, option_map, slice_get};
+ghost use Rattle.std.specs.Prelude.{◌≡◌, ◌+◌, ◌<◌, ◌≤◌, ℕ, false, IfNone, IfSome, IsFalse, IsSome, IsTrue, None, Some, option_and_then, option_map, slice_get};
 ghost use Rattle.std.specs.FinMap as finmap;
 ghost use Rattle.w16_ne.specs.Reading.{word_of};
 ghost use Rattle.w16_ne.specs.Modules.{Tables};
 ghost use Rattle.w16_format.specs.Tables.{tables_in};
-ghost use Rattle.w16_loading.specs.Modules.{module_at, name_of};
+ghost use Rattle.w16_store.specs.Names.{is_named};
+ghost use Rattle.w16_loading.specs.Modules.{Module, module_at, name_of};
+ghost use Rattle.w16_kernel.specs.Growing.{IsLoadedFrom};
 ghost use Rattle.w16_kernel.specs.Asked.{export_in, segment_pointer, segment_selector, start_of, IsFirstModule, IsStart};
 
 use crate::kernel::Kernel;
@@ -12,7 +14,7 @@ use std::alloc::Allocator;
 use w16_loader::{Loaded, Registry};
 use w16_loading::{FIRST_MODULE, MOST_MODULES};
 use w16_model::names::{dword_of, selector_of};
-use w16_store::Store;
+use w16_store::{Store, is_named};
 
 /// Where a program begins, as the header of its file says. Its fields lie as C has them.
 #[repr(C)]
@@ -95,6 +97,21 @@ fn first_from<A: Allocator>(registry: &Registry<A>, from: u16) -> Option<u16>
         }
     }
     None
+}
+
+/// Whether a module is loaded from the file of a name.
+pub fn is_loaded_from<A: Allocator>(registry: &Registry<A>, name: &[u8]) -> bool
+    ensures yes { IsTrue result → IsLoadedFrom registry.now name.now }
+    ensures no { IsFalse result → (handle : ℕ) (m : Module) → handle < FIRST_MODULE + MOST_MODULES → module_at registry.now handle ≡ Some m → is_named name.now m.file ≡ false }
+{
+    for handle in 0..FIRST_MODULE + MOST_MODULES {
+        if let Some(loaded) = registry.module(handle)
+            && is_named(name, loaded.file())
+        {
+            return true;
+        }
+    }
+    false
 }
 
 impl<S: Store + Drop, A: Allocator + Copy> Kernel<S, A> {

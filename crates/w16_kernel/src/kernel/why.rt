@@ -9,13 +9,13 @@ ghost use Rattle.w16_kernel.specs.Why.Subject.{LocalHeap, LocalObject, Module, O
 
 use crate::call::Call;
 use crate::kernel::Kernel;
-use crate::parts::Loading;
 use std::alloc::Allocator;
 use w16_global::Global16;
 use w16_local::LocalHeaps;
 use w16_machine::local::LMEM_DISCARDABLE;
 use w16_model::names::selector_in;
 use w16_model::{GMEM_DISCARDABLE, has_flag};
+use w16_resource::Loading;
 use w16_store::Store;
 
 /// Why a call is refused, of what it names.

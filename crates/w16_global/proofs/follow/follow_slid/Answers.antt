@@ -11,28 +11,28 @@ objects-preserved g c =
       above = omega (arith, now.above, inside.0);
       ends = inr (omega arith);
       so_far = further c.args.objects.now c.args.attributes.now c.requires.handles c.args.selectors.now c.requires.labelled c.args.slid.from c.objects.from c.in-Some.block now.above inside.0 real.0 there.0 there.1 c.in-Some.ensures.lowest c.objects.selectors now.so_far _ (omega arith) (omega arith)
-          c.place_run.new.selectors c.place_run.ensures.placed;
+          _ c.place_run.ensures.placed;
       many = c.place_run.ensures.many ∙ now.many;
     }
 
 pub place_run-requires-clause-known : goal.place_run-requires-clause-known
 place_run-requires-clause-known g c = λ number below.
-    (run_known c.args.objects.now c.args.attributes.now c.requires.handles c.objects.selectors
+    (run_known c.args.objects.now c.args.attributes.now c.requires.handles _
     (told_labelled c.args.objects.now c.args.attributes.now c.requires.handles
-    (begins_in c.args.objects.now.heap c.args.slid.from c.objects.from) c.args.selectors.now c.objects.selectors
+    (begins_in c.args.objects.now.heap _ _) c.args.selectors.now _
     c.requires.labelled c.objects.invariant.so_far)
-    c.in-Some.block.id number (subst (λ n. number < n) (sym (run_sized c.args.objects.now c.args.attributes.now c.requires.handles c.in-Some.block.id c.in-Some.block.size c.in-Some.ensures.there.1)) below)).0
+    _ number (subst (λ n. number < n) (sym (run_sized c.args.objects.now c.args.attributes.now c.requires.handles c.in-Some.block.id _ c.in-Some.ensures.there.1)) below)).0
 
 pub place_run-requires-clause-numbered : goal.place_run-requires-clause-numbered
 place_run-requires-clause-numbered g c = λ number below.
-    (run_known c.args.objects.now c.args.attributes.now c.requires.handles c.objects.selectors
+    (run_known c.args.objects.now c.args.attributes.now c.requires.handles _
     (told_labelled c.args.objects.now c.args.attributes.now c.requires.handles
-    (begins_in c.args.objects.now.heap c.args.slid.from c.objects.from) c.args.selectors.now c.objects.selectors
+    (begins_in c.args.objects.now.heap _ _) c.args.selectors.now _
     c.requires.labelled c.objects.invariant.so_far)
-    c.in-Some.block.id number (subst (λ n. number < n) (sym (run_sized c.args.objects.now c.args.attributes.now c.requires.handles c.in-Some.block.id c.in-Some.block.size c.in-Some.ensures.there.1)) below)).1
+    _ number (subst (λ n. number < n) (sym (run_sized c.args.objects.now c.args.attributes.now c.requires.handles c.in-Some.block.id _ c.in-Some.ensures.there.1)) below)).1
 
 pub place_run-requires-clause-enough : goal.place_run-requires-clause-enough
-place_run-requires-clause-enough g c = run_sized c.args.objects.now c.args.attributes.now c.requires.handles c.in-Some.block.id c.in-Some.block.size c.in-Some.ensures.there.1
+place_run-requires-clause-enough g c = run_sized c.args.objects.now c.args.attributes.now c.requires.handles c.in-Some.block.id _ c.in-Some.ensures.there.1
 
 pub place_run-requires-clause-few : goal.place_run-requires-clause-few
 place_run-requires-clause-few g c = omega (arith, c.objects.invariant.many, c.requires.many.1, c.requires.many.2)

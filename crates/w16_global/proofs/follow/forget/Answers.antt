@@ -12,22 +12,22 @@ overflow_cast-first g c =
 
 pub vacate_run-requires-clause-known : goal.vacate_run-requires-clause-known
 vacate_run-requires-clause-known g c = λ number below.
-    (run_known c.args.objects.now c.args.attributes.now c.requires.handles c.loop-id.selectors
-    (told_labelled c.args.objects.now c.args.attributes.now c.requires.handles (λ first. is_member first (take c.loop-id.id-index c.discarded-discarded.result.now)) c.args.selectors.now c.loop-id.selectors c.requires.labelled c.loop-id.invariant.so_far)
-    (get_or c.discarded-discarded.result.now c.loop-id.id-index 0) number (subst (λ n. number < n) c.slots_of.ensures below)).0
+    (run_known c.args.objects.now c.args.attributes.now c.requires.handles _
+    (told_labelled c.args.objects.now c.args.attributes.now c.requires.handles (λ first. is_member first (take _ _)) c.args.selectors.now _ c.requires.labelled c.loop-id.invariant.so_far)
+    _ number (subst (λ n. number < n) c.slots_of.ensures below)).0
 
 pub vacate_run-requires-clause-few : goal.vacate_run-requires-clause-few
 vacate_run-requires-clause-few g c = omega (arith, c.loop-id.invariant.many, c.requires.many.1, c.requires.many.2)
 
 pub loop-id-preserved : goal.loop-id-preserved
 loop-id-preserved g c =
-    let id : ℕ = get_or c.discarded-discarded.result.now c.loop-id.id-index 0 in
+    let id = get_or c.discarded-discarded.result.now c.loop-id.id-index 0 in
     let gone = All-get_or (λ first. (first < c.args.objects.now.cap) × (bytes_at c.args.objects.now.heap first ≡ None))
     c.discarded-discarded.result.now c.loop-id.id-index 0 c.loop-id-test.true
     (subst (All (λ first. (first < c.args.objects.now.cap) × (bytes_at c.args.objects.now.heap first ≡ None)))
     (sym c.discarded-discarded.ensures) c.requires.gone) in
     record {
-      so_far = forgets_next c.args.objects.now c.args.attributes.now c.requires.handles c.args.selectors.now c.requires.labelled c.discarded-discarded.result.now c.loop-id.id-index c.loop-id.selectors c.vacate_run.new.selectors c.loop-id-test.true gone.1 c.loop-id.invariant.so_far
+      so_far = forgets_next c.args.objects.now c.args.attributes.now c.requires.handles c.args.selectors.now c.requires.labelled c.discarded-discarded.result.now c.loop-id.id-index c.loop-id.selectors _ c.loop-id-test.true gone.1 c.loop-id.invariant.so_far
           (λ q. c.vacate_run.ensures.vacated q ∙ ap (λ n. vacated id n c.loop-id.selectors q) c.slots_of.ensures);
       many = c.vacate_run.ensures.many ∙ c.loop-id.invariant.many;
     }

@@ -7,7 +7,7 @@ rehouse-requires-clause-inside g c = omega (arith, run_within c.args.attributes.
 
 pub take_run-requires-clause-free : goal.take_run-requires-clause-free
 take_run-requires-clause-free g c = λ number lt.
-    let own : slots_in c.args.attributes.now c.args.slot ≡ c.in-Some.held.slots = ap (λ (a : Option Attributes). unwrap_or (option_map (λ (a : Attributes). a.slots) a) 0) c.in-Some.is in
+    let own = ap (λ a. unwrap_or (option_map (λ a. a.slots) a) 0) c.in-Some.is in
     let may = c.requires.free number lt in
     let inside = run_within c.args.attributes.now c.args.selectors.now c.args.slot c.args.first c.args.count c.requires.run c.requires.free number lt in
     let back = c.give_run.ensures.given (c.args.first + number) in

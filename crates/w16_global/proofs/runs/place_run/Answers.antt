@@ -5,7 +5,7 @@ use Rattle.w16_global.proofs.runs.place_run.Goals as goal
 pub returns-then-size-le-REACH-clause-placed : goal.returns-then-size-le-REACH-clause-placed
 returns-then-size-le-REACH-clause-placed g c =
     let one : slots_for c.args.size ≡ 1 = omega arith in
-    let known : is_some (descriptor_at c.args.selectors.now (c.args.first + 0)) ≡ true = c.requires.known 0 (omega arith) in
-    let numbered : number_at c.args.selectors.now (c.args.first + 0) ≡ 0 = c.requires.numbered 0 (omega arith) in
+    let known = c.requires.known 0 (omega arith) in
+    let numbered = c.requires.numbered 0 (omega arith) in
     let inside = in_table c.args.selectors.now (c.args.first + 0) known in
     λ slot. grind (arith, common_steps, nat_tests)

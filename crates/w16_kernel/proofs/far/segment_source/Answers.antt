@@ -8,8 +8,10 @@ returns-in_err-place-clause-none g c = none_so c.from_residual.result c.from_res
 
 pub returns-in_err-loaded-clause-none : goal.returns-in_err-loaded-clause-none
 returns-in_err-loaded-clause-none g c = none_so c.from_residual-in_err-loaded.result c.from_residual-in_err-loaded.ensures (λ rest is unloaded.
-    let s = segment_there _ is unloaded c.in_ok-place.place (ap owner_in (sym c.in_ok-place.was) ∙ c.segment_of.ensures) in absurd (no_module (ap (option_map _) (sym c.in_err-loaded.was) ∙ c.module.ensures ∙ s.1.loaded)))
+    let s = segment_there _ is unloaded c.in_ok-place.place (ap owner_in (sym c.in_ok-place.was) ∙ c.segment_of.ensures) in absurd
+    (no_module (ap (option_map _) (sym c.in_err-loaded.was) ∙ c.module.ensures ∙ s.1.loaded)))
 
 pub returns-clause-found : goal.returns-clause-found
 returns-clause-found g c = λ rest is unloaded.
-    source_for (segment_there _ is unloaded c.in_ok-place.place (ap owner_in (sym c.in_ok-place.was) ∙ c.segment_of.ensures)).1 (sym c.module.ensures ∙ ap (option_map _) c.in_ok-loaded.was) (sym c.source.ensures.number) c.source.ensures.source (sym c.source.ensures.tables)
+    source_for (segment_there _ is unloaded c.in_ok-place.place (ap owner_in (sym c.in_ok-place.was) ∙ c.segment_of.ensures)).1
+    (sym c.module.ensures ∙ ap (option_map _) c.in_ok-loaded.was) (sym c.source.ensures.number) c.source.ensures.source (sym c.source.ensures.tables)

@@ -2,4 +2,4 @@ use Rattle.w16_loading.proofs.Requests.{step_fills}
 use Rattle.w16_kernel.proofs.resource.load_resource.Goals as goal
 
 pub returns-clause-step : goal.returns-clause-step
-returns-clause-step g c = rw (← c.loading.view_is, c.word_reply.ensures.told) (step_fills _ _ _ _ _ (c.load-answer.ensures.step (rw (← c.loading.view_is) at c.requires)))
+returns-clause-step g c = rw c.word_reply.ensures.told (step_fills _ _ _ _ _ (c.load_resource.ensures.step c.requires))

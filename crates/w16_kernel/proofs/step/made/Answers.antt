@@ -13,7 +13,8 @@ pub returns-clause-step : goal.returns-clause-step
 returns-clause-step g c = rw (← c.refresh.ensures, c.sweep.ensures) (told_step _ _ (rw (← c.refresh.ensures) at c.requires.world) _ c.in_ok-reply.reply _ c.in_ok-reply.ensures.step)
 
 pub returns-clause-promises : goal.returns-clause-promises
-returns-clause-promises g c = rw (← c.refresh.ensures, c.sweep.ensures) (told_promises _ _ (rw (← c.refresh.ensures) at c.requires.world) _ c.in_ok-reply.reply _ c.in_ok-reply.ensures.step c.in_ok-reply.ensures.ranged)
+returns-clause-promises g c = rw (← c.refresh.ensures, c.sweep.ensures)
+    (told_promises _ _ (rw (← c.refresh.ensures) at c.requires.world) _ c.in_ok-reply.reply _ c.in_ok-reply.ensures.step c.in_ok-reply.ensures.ranged)
 
 pub returns-clause-world : goal.returns-clause-world
 returns-clause-world g c = rw c.sweep.ensures (told_world _ _ (rw (← c.refresh.ensures) at c.requires.world) _ c.in_ok-reply.reply _ c.in_ok-reply.ensures.step c.in_ok-reply.ensures.ranged)

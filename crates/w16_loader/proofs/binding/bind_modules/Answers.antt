@@ -3,7 +3,7 @@ use Rattle.w16_loader.proofs
 use proofs.Common as C
 use proofs.Bindings as M
 use proofs.Common.{◌∷◌, ◌<◌, ◌≤◌, [], drop, length, sym, ap, ◌∙◌, subst, arith}
-use proofs.{Values.fault_since, Bindings.step}
+use proofs.{Values.fault_so, Bindings.step}
 use Rattle.std.specs.FinMap as finmap
 use Rattle.w16_loader.proofs.binding.bind_modules.Goals as goal
 
@@ -58,7 +58,7 @@ returns-in-Err-clause-faults g c = λ reads honest said.
     let read = M.read_here old now now handles place handle here before.values files reads said lt in
     let is = M.said_here old now now handles place handle here before.values files reads said lt in
     let still = subst (λ fs. C.IsSomeAnd (C.module_at now handle) (λ m. C.IsSaid fs m read)) (sym before.files) is in
-    c.fault_at.ensures.failure _ _ (fault_since _ _ _ _ c.in-Err.fault before.failures (c.in-Err.ensures.failed read honest still))
+    c.fault_at.ensures.failure _ _ (fault_so (λ refusal h. h) _ _ _ c.in-Err.fault before.failures (c.in-Err.ensures.failed read honest still))
 
 pub returns-clause-any : goal.returns-clause-any
 returns-clause-any g c =

@@ -1,8 +1,7 @@
 -- One segment more has its values.
 use Rattle.w16_loader.proofs.Common.{◌≡◌, segment_in, ◌+◌, ◌++◌, ◌∷◌, [], ◌≤◌, length, map, sym, ap, ◌∙◌, subst, arith, length-map, length_push, take_all, targets_of, far_of, IsSaid}
 use Rattle.std.specs.FinMap as finmap
-use Rattle.w16_loading.specs.File as loading
-use Rattle.w16_loader.proofs.Values.{count_said, fault_since, front_more, numbered_there, segment_more}
+use Rattle.w16_loader.proofs.Values.{count_said, fault_so, front_more, numbered_there, segment_more}
 use Rattle.w16_loader.proofs.binding.module_values.Goals as goal
 
 pub loop-place-preserved : goal.loop-place-preserved
@@ -35,7 +34,7 @@ returns-in-Err-clause-failed g c = λ read honest is.
     let still = subst (λ files. IsSaid files c.args.loaded.now read) (sym c.loop-place.invariant.files) is in
     let many = count_said _ _ read is c.module.result.now c.module.ensures c.segment_count-count.result c.segment_count-count.ensures.count in
     let s = numbered_there read.segments c.loop-place.place (omega (arith, many, c.loop-place-test.true)) in
-    fault_since _ _ _ _ c.in-Err.fault c.loop-place.invariant.failures (c.in-Err.ensures.failed read s.0 honest still s.2)
+    fault_so (λ refusal h. h) _ _ _ c.in-Err.fault c.loop-place.invariant.failures (c.in-Err.ensures.failed read s.0 honest still s.2)
 
 pub returns-clause-any : goal.returns-clause-any
 returns-clause-any g c =

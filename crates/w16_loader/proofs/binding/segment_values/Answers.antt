@@ -3,8 +3,6 @@ use Rattle.w16_loader.proofs.Common.{◌≡◌, ◌-◌, length, map, sym, ap, �
 use Rattle.w16_loader.proofs.Values.{found, segment_refused, stored_as, stored_there, targets_alike, targets_are}
 use Rattle.w16_ne.specs.{Modules.Tables, Texts.text_in}
 use Rattle.w16_format.specs.Data.{record_target}
-use Rattle.std.specs.FinMap as finmap
-use Rattle.w16_loading.specs.File as loading
 use Rattle.w16_loader.proofs.binding.segment_values.Goals as goal
 
 pub check-requires-clause-last : goal.check-requires-clause-last
@@ -19,7 +17,7 @@ returns-in-Err-clause-failed g c = λ read s honest is at.
     let m = c.args.loaded.now in
     let t = c.module.result.now in
     let stored = stored_as files m read is t c.module.ensures in
-    rw c.fault_of_check.ensures.fault
+    rw c.fault_of_relocations.ensures.fault
     (segment_refused files m read is t c.module.ensures _ s at _ _ _
     (c.in-Err.ensures.exact is.file (found files m read is t _ _ s at).0 honest (stored_there files m is.file t stored _ c.file.ensures) stored.read (found files m read is t _ _ s at).1))
 

@@ -4,7 +4,7 @@ use proofs.Common.{◌≡◌, ◌+◌, ◌-◌, ◌<◌, ◌≤◌, length, All,
 use proofs.Files.{there, all_sound, sound_next, is_unsound}
 use proofs.NameSteps.{fit_more, fits}
 use proofs.Tellings.{sound_told, unsound_told}
-use Rattle.w16_loader.specs.Devices.{is_file_device}
+use Rattle.w16_loader.specs.Devices.{is_fault_device}
 use Rattle.w16_loader.proofs.found.check_segments.Goals as goal
 
 pub loop-place-preserved : goal.loop-place-preserved
@@ -42,12 +42,12 @@ returns-clause-checked g c = λ says. (
 
 pub returns-in-Err-clause-checked : goal.returns-in-Err-clause-checked
 returns-in-Err-clause-checked g c = λ says.
-    unsound_told g.S.Store.is_honest (g.S.Store.files _) c.args.name.now c.args.module_file.now says _ _ c.fault_of_check.result c.fault_of_check.ensures.number (λ bytes honest has tables.
+    unsound_told g.S.Store.is_honest (g.S.Store.files _) c.args.name.now c.args.module_file.now says _ _ c.fault_of_relocations.result c.fault_of_relocations.ensures.refuses (λ bytes honest has tables.
     let lt : c.loop-place.place < length c.args.module_file.now.segments = omega (arith, c.segment_count-place-end.ensures.count) in
     let s = there c.args.module_file.now.segments c.loop-place.place lt in
     let place : c.loop-place.place + 1 - 1 ≡ c.loop-place.place = omega arith in
     let here = ap (λ k. slice_get c.args.module_file.now.segments k) place ∙ s.1 in
-    rw c.fault_of_check.ensures.fault
+    rw c.fault_of_relocations.ensures.fault
     (is_unsound bytes c.args.module_file.now c.loop-place.place s.0 s.1 (c.loop-place.invariant.sound bytes honest has tables) _ _ _ c.in-Err.fault c.loop-place.invariant.failures
     (c.in-Err.ensures.exact bytes s.0 honest (rw c.loop-place.invariant.files has) tables here)))
-    (λ e. let rose = c.in-Err.ensures.device (sym c.fault_of_check.ensures.device ∙ ap is_file_device e) in omega (arith, rose, c.loop-place.invariant.failures))
+    (λ e. let rose = c.in-Err.ensures.device (sym c.fault_of_relocations.ensures.device ∙ ap is_fault_device e) in omega (arith, rose, c.loop-place.invariant.failures))

@@ -1,7 +1,7 @@
 -- A load of what is there already, and a new module's load, from the read of its file on.
 use Rattle.w16_loader.proofs
 use proofs.Common as C
-use proofs.Common.{◌≡◌, [], Bool, None, IfOk, sym, ap, ◌∙◌, subst, in_world, Says, Meant, There, ne_format, answer_in, in_store, answers_of}
+use proofs.Common.{◌≡◌, [], Bool, None, IfOk, sym, ap, ◌∙◌, subst, in_world, Says, Meant, There, ne_format, load_answer, in_store, answers_of}
 use proofs.HeldLoads.{for_one, refused_file, there_again, unnamed}
 use Rattle.w16_loading.specs.{Answers.LoadsFrom, Answers.told, Fewest.FillsFewest}
 use Rattle.std.specs.FinMap as finmap
@@ -14,10 +14,10 @@ returns-in-Err-clause-over g c = λ rest.
     let start = g.S.Store.failures c.args.store.now in
     let after = g.S.Store.failures c.examine_file.new.store in
     let world = in_store rest c.args.registry.now c.args.global.now.handles files start in
-    for_one (λ b answer. LoadsFrom FillsFewest (told _ ne_format files start after) b world c.args.file.now (answer_in answer) world) c.args.is_load_module _
-    (subst (λ r. IfOk r (λ answer. (b : Bool) → LoadsFrom FillsFewest (told g.S.Store.is_honest ne_format files start after) b world c.args.file.now (answer_in answer) world)) (sym c.refuse.ensures.answer)
+    for_one (λ b answer. LoadsFrom FillsFewest (told _ ne_format files start after) b world c.args.file.now (load_answer answer) world) c.args.is_load_module _
+    (subst (λ r. IfOk r (λ answer. (b : Bool) → LoadsFrom FillsFewest (told g.S.Store.is_honest ne_format files start after) b world c.args.file.now (load_answer answer) world)) (sym c.refuse.ensures.answer)
     (refused_file g.S.Store.is_honest files start after rest c.args.registry.now c.args.global.now.handles c.args.file.now c.in-Err.fault
-    (subst (λ fs. C.IsFault (λ number. C.ReadsIn (answers_of g.S.Store.is_honest (g.S.Store.files c.args.store.now)) c.args.registry.now fs c.args.file.now (C.Refused number)) start after c.in-Err.fault) (c.as_slice.ensures.value ∙ c.new-found.ensures.items) c.in-Err.ensures.makes)))
+    (subst (λ fs. C.IsFault (λ refusal. C.ReadsIn (answers_of g.S.Store.is_honest (g.S.Store.files c.args.store.now)) c.args.registry.now fs c.args.file.now (C.Refused refusal)) start after c.in-Err.fault) (c.as_slice.ensures.value ∙ c.new-found.ensures.items) c.in-Err.ensures.makes)))
 
 pub returns-in-Ok-Meant-There-clause-over : goal.returns-in-Ok-Meant-There-clause-over
 returns-in-Ok-Meant-There-clause-over g c = λ rest.
@@ -42,8 +42,8 @@ returns-clause-over g c = λ rest.
     let made = subst (C.MakesOf (answers_of _ _) modules _ c.args.file.now) c.in-Ok-Read.field-0-is c.in-Ok-Read.ensures.makes in
     let none = subst (λ fs. C.meant_in modules fs read.name ≡ None) (c.as_slice.ensures.value ∙ c.new-found.ensures.items) made.1 in
     let accepted = subst (λ fs. C.IsAccepted (answers_of g.S.Store.is_honest fs) c.args.file.now (C.tables_in read)) (sym c.in-Ok-Read.ensures.stays.same) made.0 in
-    for_one (λ b answer. LoadsFrom FillsFewest (told _ ne_format files start after) b (in_store rest modules _ files start) c.args.file.now (answer_in answer)
+    for_one (λ b answer. LoadsFrom FillsFewest (told _ ne_format files start after) b (in_store rest modules _ files start) c.args.file.now (load_answer answer)
     (in_store rest _ _ files start)) c.args.is_load_module c.load_new.result
-    (subst (λ fs. IfOk c.load_new.result (λ answer. (b : Bool) → LoadsFrom FillsFewest (told g.S.Store.is_honest ne_format fs start after) b (in_store rest modules c.args.global.now.handles fs start) c.args.file.now (answer_in answer)
+    (subst (λ fs. IfOk c.load_new.result (λ answer. (b : Bool) → LoadsFrom FillsFewest (told g.S.Store.is_honest ne_format fs start after) b (in_store rest modules c.args.global.now.handles fs start) c.args.file.now (load_answer answer)
     (in_store rest c.load_new.new.registry c.load_new.new.global.handles fs start))) c.in-Ok-Read.ensures.stays.same
     (c.load_new.ensures.loads rest start c.in-Ok-Read.ensures.stays.counted accepted (unnamed modules _ none)))

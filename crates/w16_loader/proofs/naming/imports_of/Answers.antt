@@ -1,5 +1,5 @@
 -- A reference more is followed.
-use Rattle.w16_loader.proofs.Common.{◌≡◌, ◌<◌, ◌≤◌, [], length, map, subst, ◌∙◌, arith, slice_index_or, take_all, bound_in, imports_among}
+use Rattle.w16_loader.proofs.Common.{◌≡◌, ◌<◌, ◌≤◌, [], length, map, subst, ◌∙◌, arith, slice_index_or, take_all, pair_of, imports_among}
 use Rattle.w16_loader.proofs.Imports.{import_more}
 use Rattle.w16_loader.proofs.naming.imports_of.Goals as goal
 
@@ -18,4 +18,4 @@ loop-reference-preserved g c =
 pub returns-clause-imports : goal.returns-clause-imports
 returns-clause-imports g c = λ place lt.
     let all : length c.args.bound.now ≤ c.loop-reference.reference-index = omega arith in
-    subst (λ xs. slice_index_or (map (λ v. v.items) c.loop-reference.made.items) place [] ≡ imports_among c.args.handles.now (map bound_in xs) place) (take_all _ _ all) (c.loop-reference.invariant.imports place lt)
+    subst (λ xs. slice_index_or (map (λ v. v.items) c.loop-reference.made.items) place [] ≡ imports_among c.args.handles.now (map pair_of xs) place) (take_all _ _ all) (c.loop-reference.invariant.imports place lt)

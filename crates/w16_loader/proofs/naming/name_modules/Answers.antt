@@ -1,5 +1,5 @@
 -- The handles are free and differ, so the modules of the closure get them.
-use Rattle.w16_loader.proofs.Common.{◌≡◌, ◌≢◌, ◌≤◌, [], All, AllPairs, length, get_or, map, sym, ap, ◌∙◌, subst, arith, IsFreeModule, free_modules, with_handles, bound_in, in_world, GetNames, imports_among, unbound_by}
+use Rattle.w16_loader.proofs.Common.{◌≡◌, ◌≢◌, ◌≤◌, [], All, AllPairs, length, get_or, map, sym, ap, ◌∙◌, subst, arith, IsFreeModule, free_modules, with_handles, pair_of, in_world, GetNames, imports_among, unbound_by}
 use Rattle.w16_loader.proofs.{FreeHandles.lowest_free, FreeHandles.lowest_apart, NameSteps.as_many, Namings.unbound_named}
 use Rattle.w16_loader.proofs.naming.name_modules.Goals as goal
 
@@ -18,8 +18,8 @@ returns-in-Ok-name_all-clause-named g c = λ rest meant is.
     unbound_named (in_world (with_handles rest _) _) (in_world (with_handles rest _) _) meant c.in-Ok.handles.items
     (λ p. get_or (map (λ v. v.items) c.in-Ok-imports_of.imports.items) p []) same (lowest_free _ _ _ c.in-Ok.ensures.lowest) (lowest_apart c.args.registry.now _ _ c.in-Ok.ensures.lowest)
     (λ p lt. c.in-Ok-imports_of.ensures.imports p (omega (arith, lt, same, ap length c.as_slice-2.ensures.value))
-    ∙ ap (λ hs. imports_among hs (map bound_in c.as_slice.result.now) p) c.as_slice-2.ensures.value
-    ∙ ap (λ bs. imports_among c.in-Ok.handles.items (map bound_in bs) p) c.as_slice.ensures.value
+    ∙ ap (λ hs. imports_among hs (map pair_of c.as_slice.result.now) p) c.as_slice-2.ensures.value
+    ∙ ap (λ bs. imports_among c.in-Ok.handles.items (map pair_of bs) p) c.as_slice.ensures.value
     ∙ ap (λ bs. imports_among c.in-Ok.handles.items bs p) (sym is.bound))
     (subst (λ hs. GetNames (in_world (with_handles rest c.args.global.now.handles) c.args.registry.now) (unbound_by (λ p. get_or (map (λ v. v.items) c.in-Ok-imports_of.imports.items) p [])) meant.found hs
     (in_world (with_handles rest c.name_all.new.global.handles) c.name_all.new.registry)) c.as_slice-3.ensures.value (c.in-Ok-name_all.ensures.named rest _ is.found))

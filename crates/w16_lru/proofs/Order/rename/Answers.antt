@@ -9,7 +9,7 @@ pub returns-then-behind-id-clause-value : goal.returns-then-behind-id-clause-val
 returns-then-behind-id-clause-value g c =
     let s = c.self.inside in
     none_there s.cap s.members s.after.items s.before.items c.args.self.now c.self.invariant c.self.view_is c.args.id c.args.to c.index-behind.result.now
-    (let lt = c.requires.id in let e = ap (λ (u : Uses). u.cap) c.self.view_is in omega arith) c.index-behind.ensures c.if-behind-id.true
+    (let lt = c.requires.id in let e = ap (λ u. u.cap) c.self.view_is in omega arith) c.index-behind.ensures c.if-behind-id.true
 
 module _ (g : given.Over) (c : goal.After-self-2-1 g) where
   after_is : (with_items c.self.inside.after c.relink.new.links).items ≡ relinked c.self.inside.after.items c.index-front.result.now c.args.id c.args.to

@@ -4,5 +4,5 @@ use Rattle.w16_global.proofs.global.Global16.get_selector_limit.Goals as goal
 
 pub returns : goal.returns
 returns g c =
-    let told : c.map_or.result ≡ unwrap_or (option_map (λ (d : Descriptor). d.limit) c.find.result) 0 = search rules in
-    told ∙ ap (λ r. unwrap_or (option_map (λ (d : Descriptor). d.limit) r) 0) c.find.ensures.value ∙ limit_known c.self.invariant (handles_shown c.self.view_is) c.args.selector
+    let told : c.map_or.result ≡ unwrap_or (option_map (λ d. d.limit) c.find.result) 0 = search rules in
+    told ∙ ap (λ r. unwrap_or (option_map (λ d. d.limit) r) 0) c.find.ensures.value ∙ limit_known c.self.invariant (handles_shown c.self.view_is) c.args.selector

@@ -4,7 +4,7 @@ use Rattle.w16_global.proofs.global.Global16.lengthen.Goals as goal
 pub returns-clause-step : goal.returns-clause-step
 returns-clause-step g c =
     lengthened c.args.self.now _ c.args.slot c.args.size c.args.flags.0 c.global_realloc-answer.result c.handle_at-handle.result c.handle_at-handle.ensures c.global_realloc-answer.new.self.handles c.global_realloc-answer.ensures.step c.global_realloc-answer.ensures.fewest
-    (λ i. record (handles_shown c.self-2.view_is i) { moved = (handles_shown c.self.view_is i).moved }) (ap (λ (g : Global). g.written) c.self-2.view_is ∙ c.global_realloc-answer.ensures.written)
+    (λ i. record (handles_shown c.self-2.view_is i) { moved = (handles_shown c.self.view_is i).moved }) (ap (λ g. g.written) c.self-2.view_is ∙ c.global_realloc-answer.ensures.written)
 
 pub returns-clause-refused : goal.returns-clause-refused
 returns-clause-refused g c = λ null.

@@ -6,7 +6,7 @@ pub alloc-requires-clause-absent : goal.alloc-requires-clause-absent
 alloc-requires-clause-absent g c = no_block_known c.self.invariant c.self.view_is c.args.id c.requires.free
 
 pub returns-clause-inside : goal.returns-clause-inside
-returns-clause-inside g c = (ends_low c.self.invariant c.in_ok-placed.placed.at c.args.size c.self.inside.memory.small (search rules)).0
+returns-clause-inside g c = (ends_low c.self.invariant _ _ c.self.inside.memory.small (search rules)).0
 
 pub returns-clause-few : goal.returns-clause-few
-returns-clause-few g c = (ends_low c.self.invariant c.self.inside.arena.table.lo c.in_ok-placed.placed.moved c.self.inside.memory.small (search rules)).1
+returns-clause-few g c = (ends_low c.self.invariant c.self.inside.arena.table.lo _ c.self.inside.memory.small (search rules)).1

@@ -16,6 +16,6 @@ invariant_of-self-lent g c = lent_sound c.self.inside.memory.bytes c.self.invari
 
 pub returns : goal.returns
 returns g c = (
-  (refl, lent_shown c.self.inside.memory.bytes c.self.invariant c.self.view_is c.args.id c.args.at c.args.n (sym c.block.ensures.value ∙ c.in-Some.is) c.requires),
+  (refl, lent_shown c.self.inside.memory.bytes c.self.invariant c.self.view_is _ _ _ (sym c.block.ensures.value ∙ c.in-Some.is) c.requires),
   record { value = c.lend_part.ensures.value ∙ seen c.self.invariant _ c.self.view_is (sym c.block.ensures.value ∙ c.in-Some.is) _ _ c.requires; writes_back = tt },
 )

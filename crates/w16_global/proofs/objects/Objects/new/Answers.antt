@@ -10,12 +10,12 @@ new-requires-2-clause-wide g c = (4, refl)
 
 pub invariant_of-result : goal.invariant_of-result
 invariant_of-result g c =
-    subst (λ (s : ArenaState). AreParts s c.new-2.new.space.bytes.items) (sym c.in_ok-arena.ensures)
-    (fresh_parts c.args.cap c.args.size c.requires.few c.new-2.new.space.bytes.items (c.in_ok-holes.ensures.length ∙ c.in_ok-memory.ensures.length) c.reveal_bytes.ensures
-    (subst (λ (f : Free). AreThreaded f.holes c.new-2.new.space.bytes.items) c.in_ok-holes.ensures.value c.in_ok-holes.ensures.kept))
+    subst (λ s. AreParts s c.new-2.new.space.bytes.items) (sym c.in_ok-arena.ensures)
+    (fresh_parts c.args.cap _ c.requires.few _ (c.in_ok-holes.ensures.length ∙ c.in_ok-memory.ensures.length) c.reveal_bytes.ensures
+    (subst (λ f. AreThreaded f.holes c.new-2.new.space.bytes.items) c.in_ok-holes.ensures.value c.in_ok-holes.ensures.kept))
 
 pub returns : goal.returns
 returns g c =
     (λ i. holding_of (c.in_ok-arena.ensures i) c.new-2.new.space.bytes.items ((c.in_ok-holes.ensures.written ∙ c.in_ok-memory.ensures.written) i))
-    ∙ fresh_holding c.args.cap c.args.size c.requires.few c.new-2.new.space.bytes.items (c.in_ok-holes.ensures.length ∙ c.in_ok-memory.ensures.length) c.reveal_bytes.ensures
-    (subst (λ (f : Free). AreThreaded f.holes c.new-2.new.space.bytes.items) c.in_ok-holes.ensures.value c.in_ok-holes.ensures.kept)
+    ∙ fresh_holding _ _ c.requires.few _ (c.in_ok-holes.ensures.length ∙ c.in_ok-memory.ensures.length) c.reveal_bytes.ensures
+    (subst (λ f. AreThreaded f.holes c.new-2.new.space.bytes.items) c.in_ok-holes.ensures.value c.in_ok-holes.ensures.kept)

@@ -11,7 +11,7 @@ overflow_add-block g c =
     omega (arith, room, c.self.inside.memory.small)
 
 pub view-requires : goal.view-requires
-view-requires g c = in_memory c.self.invariant c.args.id c.self.view_is (sym c.block.ensures.value ∙ c.in-Some.is) c.args.at c.args.n c.requires
+view-requires g c = in_memory c.self.invariant c.args.id c.self.view_is (sym c.block.ensures.value ∙ c.in-Some.is) _ _ c.requires
 
 pub returns : goal.returns
-returns g c = c.view.ensures ∙ seen c.self.invariant c.args.id c.self.view_is (sym c.block.ensures.value ∙ c.in-Some.is) c.args.at c.args.n c.requires
+returns g c = c.view.ensures ∙ seen c.self.invariant _ c.self.view_is (sym c.block.ensures.value ∙ c.in-Some.is) _ _ c.requires

@@ -6,7 +6,7 @@ pub realloc-requires-clause-object : goal.realloc-requires-clause-object
 realloc-requires-clause-object g c = entry_known c.self.invariant c.self.view_is c.args.id c.requires.object
 
 pub returns-clause-inside : goal.returns-clause-inside
-returns-clause-inside g c = (ends_low c.self.invariant c.in_ok-place.place.at c.args.size c.self.inside.memory.small (search rules)).0
+returns-clause-inside g c = (ends_low c.self.invariant _ _ c.self.inside.memory.small (search rules)).0
 
 pub returns-clause-few : goal.returns-clause-few
-returns-clause-few g c = (ends_low c.self.invariant c.self.inside.arena.table.lo c.in_ok-place.place.moved c.self.inside.memory.small (search rules)).1
+returns-clause-few g c = (ends_low c.self.invariant c.self.inside.arena.table.lo _ c.self.inside.memory.small (search rules)).1

@@ -20,7 +20,12 @@ loop-call-preserved g c =
     let promises = rw (← c.of.ensures) at c.in_ok-reply.ensures.promises in
     let longer = ran_more _ _ _ _ _ call c.of.result _ c.loop-call.invariant.ran step promises in
     let longest = c.push_reserved.ensures.capacity in let one = c.push_reserved.ensures.len in let count = c.loop-call.invariant.count in let room = c.loop-call.invariant.room in
-    record { count = omega arith; room = omega arith; ran = subst (λ (cs : List Call). Ran (C.KernelStep g.S.Store.is_honest) c.args.self.now cs c.push_reserved.new.self.items c.call.new.self) (sym (C.take_more calls i first (omega arith))) (rw c.push_reserved.ensures.items longer) }
+    record {
+      count = omega arith;
+      room = omega arith;
+      ran = subst (λ (cs : List Call). Ran (C.KernelStep g.S.Store.is_honest) c.args.self.now cs c.push_reserved.new.self.items c.call.new.self)
+          (sym (C.take_more calls i first (omega arith))) (rw c.push_reserved.ensures.items longer);
+    }
 
 pub returns-in_err-answers-clause-refused : goal.returns-in_err-answers-clause-refused
 returns-in_err-answers-clause-refused g c = C.on_any c.from_residual.result _ (none_done _ _ _)

@@ -2,18 +2,9 @@
 use Rattle.w16_loader.proofs.Common as C
 use Rattle.std.specs.Result.{IfErr}
 use Rattle.std.proofs.lemmas.Result.{IfErr-weaker, IfOk-weaker}
-use Rattle.w16_loader.proofs.Common.{[], inr, Found, meant_in, IsRefusedFile, ◌≡◌, ℕ, List, None, IfOk, sym, ap, ◌∙◌, subst, IsFault, dll}
-use Rattle.w16_loading.specs.Answers.{Answers}
-use Rattle.w16_loading.specs.Closure as closing
-use Rattle.w16_loader.specs.declared.closure.Followed.TheVariants as leads
-use Rattle.w16_loader.specs.declared.found.FileFault.TheVariants as faults
+use Rattle.w16_loader.proofs.Common.{[], inr, arith, meant_in, IsRefusedFile, ◌≡◌, None, IfOk, sym, ap, ◌∙◌, subst, IsFault}
+use Rattle.w16_loader.proofs.Values.{fault_so}
 use Rattle.w16_loader.proofs.closure.Closure.follow.Goals as goal
-
-named_refused : {A : Type 0} (answers : Answers) (modules : C.Modules) (found : List (Found A)) (name : List ℕ) (before after : ℕ) (fault : C.FileFault) → meant_in modules found name ≡ None
-    → IsFault (IsRefusedFile answers modules found (dll name)) before after fault → IsFault (C.IsRefusedName answers modules found name) before after fault
-named_refused answers modules found name before after (faults.Refused number) none h = (none, h)
-named_refused answers modules found name before after faults.Device none h = h
-named_refused answers modules found name before after faults.OutOfMemory none h = tt
 
 pub returns-in-Ok-clause-refused : goal.returns-in-Ok-clause-refused
 returns-in-Ok-clause-refused g c =
@@ -26,7 +17,7 @@ returns-in-Ok-clause-refused g c =
     let none = subst (λ found. meant_in modules found name ≡ None) c.as_slice-found.ensures.value (sym (c.meant.ensures []) ∙ ap (C.option_map _) c.in_default.is) in
     let fault = subst (λ found. IfErr c.follow_file.result (IsFault (IsRefusedFile answers modules found c.in-Ok.file.items) before after)) c.as_slice-found.ensures.value c.follow_file.ensures.refused in
     let here = subst (λ file. IfErr c.follow_file.result (IsFault (IsRefusedFile answers modules old.found.items file) before after)) c.in-Ok.ensures fault in
-    IfErr-weaker _ _ _ (λ fault. named_refused answers modules _ name before after fault none) here
+    IfErr-weaker _ _ _ (λ fault h. fault_so {Q = C.IsRefusedName answers modules old.found.items name} (λ refusal h. (none, h)) before before after fault (omega arith) h) here
 
 pub returns-in-Ok-clause-leads : goal.returns-in-Ok-clause-leads
 returns-in-Ok-clause-leads g c =

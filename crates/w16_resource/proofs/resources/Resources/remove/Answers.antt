@@ -7,7 +7,8 @@ use Rattle.w16_resource.proofs.resources.Resources.remove.Goals as goal
 pub returns-then-place-len : goal.returns-then-place-len
 returns-then-place-len g c =
     let inside : c.args.slot < length c.self.inside.loads.items = omega arith in
-    ap (λ place. loads_in (set c.self.inside.loads.items place None)) c.from-place.ensures ∙ load_removed c.self.inside.loads.items c.args.slot inside ∙ ap (λ m. finmap.remove m c.args.slot) c.self.view_is
+    ap (λ place. loads_in (set c.self.inside.loads.items place None)) c.from-place.ensures
+    ∙ load_removed c.self.inside.loads.items c.args.slot inside ∙ ap (λ m. finmap.remove m c.args.slot) c.self.view_is
 
 pub returns-else-place-len : goal.returns-else-place-len
 returns-else-place-len g c =

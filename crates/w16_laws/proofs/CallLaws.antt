@@ -1,0 +1,331 @@
+-- The laws of each call on handles, by its outcome: what stays, the bytes moved, and the order of use.
+use Rattle.w16_model.proofs.CallLaws.{contents, next_own, place_own, next_other, place_beside, followed, other}
+use Rattle.w16_model.proofs.Common.{arith, Heap, ℕ, is_some, ◌≡◌, true, Bool, List, blocks, ◌<◌, map, [], ◌∷◌, inl, refl, sym, inr, ◌∙◌, ◌+◌, ap, Option, None, false≢true, Some, not, is_member, object_at, Object, Handles, Answer, next_slot, subst, counts_moved, Word, Dword, ◌⊎◌, without}
+use Rattle.w16_model.proofs.Common.{cond, OnlyLeave, may_order, false, handle_in, ◌&&◌, newest, Ok, Result, Err, ◌==◌}
+use Rattle.w16_model.proofs.CallOrders.{stays, discards, rest_resized, compacted, resized_leaves, touched_rest, newest_rest, allocated, gone_bytes}
+use Rattle.w16_model.proofs.{CallOutcomes.outcome, CallOutcomes.none_moved, Gaps.Member, Heaps.IsBlockOf, Heaps.member_block, Heaps.block_member, Heaps.blocks_rise, Heaps.keys_rise, KeptHeaps.bytes_in, KeptHeaps.taken_here, KeptHeaps.inserted_here, Discards.is_member-true}
+use Rattle.w16_model.proofs.{Discards.true-is_member, Starts.member_map, ResizedHandles.found_some, Fewest.some_handle, KindChanges.twice_out, KeptRest.all_stay, KeptRest.at_once, KeptRest.absents_order, Runs.unused, Runs.some_slots, KeptHandles.settled, Others.others_law}
+use Rattle.w16_model.proofs.Common as C
+use Rattle.std.specs.FinMap as finmap
+use Rattle.w16_model.proofs.Gaps as M
+use Rattle.std.specs.List.{AllByRecursion as Each}
+use Rattle.w16_model.specs.declared.Refusal.TheVariants as refusals
+use Rattle.w16_model.specs.declared.Kind.TheVariants.{Fixed, Moveable, Discardable}
+use Rattle.w16_model.specs.{declared.Block.Block, declared.Refusal.Refusal, declared.Kind.Kind, declared.RoomOptions.RoomOptions}
+
+pub contents_law : C.ContentsLaw
+contents_law old new call answer is m step = contents old new call answer (outcome old new call _ is step) m
+
+-- The bytes moved to a heap, from which each object of old goes on to its next slot.
+module _ (old mid new : Heap) (is : C.IsHeap old) (next : ℕ → ℕ) (goes : (q : ℕ) → is_some (finmap.get old.places q) ≡ true → finmap.get new.places (next q) ≡ finmap.get mid.places q) where
+  abbrev moves : Block → Bool
+  moves x = C.is_elsewhere x.at (finmap.get mid.places x.id)
+
+  abbrev moving : List Block
+  moving = C.filter moves (blocks old)
+
+  abbrev id_of : Block → ℕ
+  id_of x = x.id
+
+  ids_differ : (xs : List Block) → M.EachPair (λ x y. x.id < y.id) xs → M.EachPair (λ a b. a ≡ b → ⊥) (map id_of xs)
+  ids_differ [] h = tt
+  ids_differ (x ∷ xs) h = (above xs h.0, ids_differ xs h.1)
+    where
+      above : (ys : List Block) → Each (λ (y : Block). x.id < y.id) ys → Each (λ b. x.id ≡ b → ⊥) (map id_of ys)
+      above [] h = tt
+      above (y ∷ ys) h = ((λ e. omega (arith, h.0, e)), above ys h.1)
+
+  member_back : (xs : List Block) (q : ℕ) → Member q (map id_of xs) → (x : Block) × Member x xs × (x.id ≡ q)
+  member_back [] q m = absurd m
+  member_back (x ∷ xs) q (inl e) = (x, inl refl, sym e)
+  member_back (x ∷ xs) q (inr m) = let r : (x : Block) × Member x xs × (x.id ≡ q) = member_back xs q m in (r.0, inr r.1, r.2)
+
+  sum_is : (xs : List Block) → ((x : Block) → Member x xs → x.size ≡ C.size_at old x.id) → C.sum_by (λ (x : Block). x.size) xs ≡ C.sum_by (C.size_at old) (map id_of xs)
+  sum_is [] h = refl
+  sum_is (x ∷ xs) h = C.sum_by-cons (λ (x : Block). x.size) x xs ∙ (λ i. h x (inl refl) i + sum_is xs (λ y m. h y (inr m)) i) ∙ sym (C.sum_by-cons (C.size_at old) x.id (map id_of xs))
+
+  size_is : (x : Block) → Member x moving → x.size ≡ C.size_at old x.id
+  size_is x m =
+      let b : IsBlockOf old x = member_block old x (M.member_filter moves (blocks old) x m).0 in
+      b.size ∙ sym (ap (λ p. C.unwrap_or (C.option_map C.length (bytes_in p)) 0) b.is_there ∙ ap (λ p. C.unwrap_or (C.option_map C.length p) 0) b.has_bytes)
+
+  -- an address that has changed
+  elsewhere : (x : Block) (q : ℕ) → x.id ≡ q → (p r : Option ℕ) → finmap.get old.places q ≡ p → finmap.get mid.places q ≡ r → x.at ≡ C.unwrap_or p 0 → is_some p ≡ true → C.is_elsewhere x.at r ≡ true → C.IsMoved old new next q
+  elsewhere x q e None r was now at some t = absurd (false≢true some)
+  elsewhere x q e (Some a) None was now at some t = absurd (false≢true t)
+  elsewhere x q e (Some a) (Some b) was now at some t = (a, b, was, goes q (ap is_some was) ∙ now, (λ same. false≢true (sym (ap not (C.eq-eqb b x.at (sym same ∙ sym at))) ∙ t)))
+
+  into : (q : ℕ) → is_member q (map id_of moving) ≡ true → C.IsMoved old new next q
+  into q t =
+      let r : (x : Block) × Member x moving × (x.id ≡ q) = member_back moving q (is_member-true q (map id_of moving) t) in
+      let f : Member r.0 (blocks old) × C.IsTrue (moves r.0) = M.member_filter moves (blocks old) r.0 r.1 in
+      let b : IsBlockOf old r.0 = member_block old r.0 f.0 in
+      elsewhere r.0 q r.2 (finmap.get old.places q) (finmap.get mid.places q) refl refl (b.place ∙ ap (λ k. C.unwrap_or (finmap.get old.places k) 0) r.2)
+      (is.at_bytes q ∙ ap (λ k. is_some (bytes_in (object_at old k))) (sym r.2) ∙ ap (λ p. is_some (bytes_in p)) b.is_there ∙ ap is_some b.has_bytes)
+      (ap (λ k. C.is_elsewhere r.0.at (finmap.get mid.places k)) (sym r.2) ∙ f.1)
+
+  back : (q : ℕ) → C.IsMoved old new next q → is_member q (map id_of moving) ≡ true
+  back q m = by_object (object_at old q) refl (sym (is.at_bytes q) ∙ ap is_some m.2)
+    where
+      listed : (o : Object) (bytes : List ℕ) → object_at old q ≡ Some o → o.bytes ≡ Some bytes → is_member q (map id_of moving) ≡ true
+      listed o bytes there has =
+          let x : Block = record { id = q; at = m.0; size = C.length bytes; hold = C.hold_of_object o } in
+          let b : IsBlockOf old x = record { object = o; bytes = bytes; is_there = there; has_bytes = has; place = sym (ap (λ p. C.unwrap_or p 0) m.2); size = refl; hold = refl } in
+          true-is_member q (map id_of moving) (member_map id_of moving x (M.filter_member moves (blocks old) x (block_member old x b) (ap (C.is_elsewhere m.0) (sym (goes q (ap is_some m.2)) ∙ m.3) ∙ ap not (C.ne_eqb m.1 m.0 (λ e. m.4 (sym e))))))
+
+      by_bytes : (o : Object) → object_at old q ≡ Some o → (b : Option (List ℕ)) → o.bytes ≡ b → is_some b ≡ true → is_member q (map id_of moving) ≡ true
+      by_bytes o there None has t = absurd (false≢true t)
+      by_bytes o there (Some bytes) has t = listed o bytes there has
+
+      by_object : (p : Option Object) → object_at old q ≡ p → is_some (bytes_in p) ≡ true → is_member q (map id_of moving) ≡ true
+      by_object None there t = absurd (false≢true t)
+      by_object (Some o) there t = by_bytes o there o.bytes refl t
+
+  moved_sum : C.IsSumOfMoved old new next (C.moved_bytes old mid)
+  moved_sum = record {
+    ids = map id_of moving;
+    once = M.AllPairs-from_EachPair (λ a b. a ≡ b → ⊥) (map id_of moving) (ids_differ moving (M.pairs_filter (λ (x y : Block). x.id < y.id) moves (blocks old)
+        (blocks_rise old.places (finmap.entries old.objects) (keys_rise (finmap.entries old.objects) (C.entries_sorted old.objects)))));
+    each = λ q. (into q, back q);
+    sum = sum_is moving size_is;
+  }
+
+module _ (old new : Handles) (is : C.AreHandles old) (call : C.Call) (answer : Answer) where
+  abbrev Sum : Type 0
+  Sum = C.IsSumOfMoved old.heap new.heap (next_slot old call answer new) new.moved
+
+  sized_again : (r : C.Resized old call answer new) → Sum
+  sized_again r = subst (C.IsSumOfMoved old.heap new.heap (next_slot old call answer new)) (sym (ap (λ (h : Handles). h.moved) r.rest)) (moved_sum old.heap r.heap new.heap is.heap (next_slot old call answer new) goes)
+    where
+      there_at : (q : ℕ) → is_some (finmap.get old.heap.places q) ≡ true → is_some (object_at old.heap q) ≡ true
+      there_at q t = turn (object_at old.heap q) (sym (is.heap.at_bytes q) ∙ t)
+        where
+          turn : (p : Option Object) → is_some (bytes_in p) ≡ true → is_some p ≡ true
+          turn None t = t
+          turn (Some o) t = refl
+
+      goes : (q : ℕ) → is_some (finmap.get old.heap.places q) ≡ true → finmap.get new.heap.places (next_slot old call answer new q) ≡ finmap.get r.heap.places q
+      goes q t = elim (C.cases_eq q r.slot) [
+        | inl e ↦ ap (finmap.get new.heap.places) (ap (next_slot old call answer new) e ∙ next_own old new is call answer r) ∙ place_own old new is call answer r ∙ ap (finmap.get r.heap.places) (sym e)
+        | inr d ↦ ap (finmap.get new.heap.places) (next_other old new is call answer r q d) ∙ place_beside old new is call answer r q (there_at q t) d
+      ]
+
+  module _ (stays : (q : ℕ) → next_slot old call answer new q ≡ q) where
+    by_rest : new.moved ≡ C.moved_bytes old.heap new.heap → Sum
+    by_rest e = subst (C.IsSumOfMoved old.heap new.heap (next_slot old call answer new)) (sym e) (moved_sum old.heap new.heap new.heap is.heap (next_slot old call answer new) (λ q t. ap (finmap.get new.heap.places) (stays q)))
+
+    counted : C.Outcome old call answer new → counts_moved call ≡ true → Sum
+    counted (C.IsSame s e) c = absurd (false≢true (sym s ∙ c))
+    counted (C.IsUnmoved s e) c = by_rest (ap (λ (h : Handles). h.moved) e ∙ sym (none_moved old.heap new.heap (ap (λ (h : Handles). h.heap.places) e)))
+    counted (C.IsLocked l) c = absurd (false≢true (sym (ap counts_moved l.asked) ∙ c))
+    counted (C.IsUnlocked u) c = absurd (false≢true (sym (ap counts_moved u.asked) ∙ c))
+    counted (C.IsFreed f) c = absurd (false≢true (sym (ap counts_moved f.asked) ∙ c))
+    counted (C.IsNewest n) c = absurd (false≢true (sym (ap counts_moved n.asked) ∙ c))
+    counted (C.IsOldest n) c = absurd (false≢true (sym (ap counts_moved n.asked) ∙ c))
+    counted (C.IsEntered e) c = by_rest (ap (λ (h : Handles). h.moved) e.rest)
+    counted (C.IsAllocated a) c = by_rest (ap (λ (h : Handles). h.moved) a.rest)
+    counted (C.IsCompacted c) t = by_rest (ap (λ (h : Handles). h.moved) c.rest)
+    counted (C.IsModified m) c = by_rest (ap (λ (h : Handles). h.moved) m.rest)
+    counted (C.IsDiscarded d) c = by_rest (ap (λ (h : Handles). h.moved) d.rest ∙ ap (C.moved_bytes old.heap) (sym (ap (λ (h : Handles). h.heap) d.rest)))
+    counted (C.IsResized r) c = sized_again r
+
+  -- a handle isn't 0
+  never : (handle slot : ℕ) → C.slot_of_handle old handle ≡ Some slot → answer ≡ Word handle → answer ≡ Word 0 → ⊥
+  never handle slot found says zero = let both : ◌≡◌ {A = Answer} (Word handle) (Word 0) = sym says ∙ zero in found_some old handle slot found (let e : handle ≡ 0 = cc in e)
+
+  new_handle : (kind : Kind) (slot : ℕ) → answer ≡ Word (C.handle_of kind slot) → answer ≡ Word 0 → ⊥
+  new_handle kind slot says zero = let both : ◌≡◌ {A = Answer} (Word (C.handle_of kind slot)) (Word 0) = sym says ∙ zero in some_handle kind slot (let e : C.handle_of kind slot ≡ 0 = cc in e)
+
+  refused : C.Outcome old call answer new → counts_moved call ≡ true → answer ≡ Word 0 → new.moved ≡ 0
+  refused (C.IsSame s e) c z = absurd (false≢true (sym s ∙ c))
+  refused (C.IsUnmoved s e) c z = ap (λ (h : Handles). h.moved) e
+  refused (C.IsLocked l) c z = absurd (false≢true (sym (ap counts_moved l.asked) ∙ c))
+  refused (C.IsUnlocked u) c z = absurd (false≢true (sym (ap counts_moved u.asked) ∙ c))
+  refused (C.IsFreed f) c z = absurd (false≢true (sym (ap counts_moved f.asked) ∙ c))
+  refused (C.IsNewest n) c z = absurd (false≢true (sym (ap counts_moved n.asked) ∙ c))
+  refused (C.IsOldest n) c z = absurd (false≢true (sym (ap counts_moved n.asked) ∙ c))
+  refused (C.IsEntered e) c z = absurd (new_handle (C.kind_asked e.flags) e.slot e.answered z)
+  refused (C.IsAllocated a) c z = absurd (new_handle (C.kind_asked a.flags) a.slot a.answered z)
+  refused (C.IsCompacted c) t z = let both : ◌≡◌ {A = Answer} (Dword c.longest) (Word 0) = sym c.answered ∙ z in cc
+  refused (C.IsModified m) c z = absurd (never m.handle m.slot m.named.found m.answered z)
+  refused (C.IsDiscarded d) c z = absurd (never d.handle d.slot d.named.found d.answered z)
+  refused (C.IsResized r) c z = absurd (new_handle r.object.kind r.first r.answered z)
+
+pub moved_law : C.MovedLaw
+moved_law old new call answer is step =
+    let o = outcome old new call _ is step in
+    record { counted = λ c. by_slot o c (followed old new call _ is step); refused = refused old new is call _ o; other = other old new is call _ o }
+  where
+    by_slot : C.Outcome old call answer new → counts_moved call ≡ true → ((q : ℕ) → next_slot old call answer new q ≡ q) ⊎ C.Resized old call answer new → Sum old new is call answer
+    by_slot o c (inl stays) = counted old new is call _ stays o c
+    by_slot o c (inr r) = sized_again old new is call _ r
+
+oldest_rest : (id : ℕ) (l : List ℕ) → without id (C.oldest id l) ≡ without id l
+oldest_rest id l = ap (λ b. cond {A = List ℕ} (not b) (id ∷ without id (without id l)) (without id (without id l))) (C.eq-eqb id id refl) ∙ twice_out id l
+
+-- What a step of a heap leaves of it.
+module _ (old new : Heap) where
+  pub same : new.order ≡ old.order → OnlyLeave new old.order new.order
+  same e = stays old new old.order new.order e
+
+  one_left : (id : ℕ) → C.bytes_at new id ≡ None → new.order ≡ without id old.order → OnlyLeave new old.order new.order
+  one_left id none e = record {
+    gone = id ∷ [];
+    without_bytes = λ q t. turn q (is_member-true q (id ∷ []) t);
+    order_is = e ∙ sym (all_stay (without id old.order)) ∙ at_once id [] old.order;
+  }
+    where
+      turn : (q : ℕ) → Member q (id ∷ []) → C.bytes_at new q ≡ None
+      turn q (inl e) = ap (C.bytes_at new) e ∙ none
+      turn q (inr m) = absurd m
+
+  pub freed : (id : ℕ) → new ≡ C.removed old id → OnlyLeave new old.order new.order
+  freed id e = one_left id (ap (λ (h : Heap). C.bytes_at h id) e ∙ ap bytes_in (taken_here old.objects id id refl)) (ap (λ (h : Heap). h.order) e)
+
+  pub resized : (id n : ℕ) (o : Object) (options : RoomOptions) → C.KeepsRest old id n o options new → OnlyLeave new (without id old.order) (without id new.order)
+  resized id n o options k = discards old new (Some id) k.count k.others (without id old.order) (without id new.order) (rest_resized old new id n o options k)
+
+module _ (old new : Handles) (is : C.AreHandles old) (call : C.Call) (answer : Answer) where
+  unordered : C.Outcome old call answer new → may_order call ≡ false → OnlyLeave new.heap old.heap.order new.heap.order
+  unordered (C.IsSame s e) m = same old.heap new.heap (ap (λ (h : Handles). h.heap.order) e)
+  unordered (C.IsUnmoved s e) m = same old.heap new.heap (ap (λ (h : Handles). h.heap.order) e)
+  unordered (C.IsLocked l) m = absurd (false≢true (sym m ∙ ap may_order l.asked))
+  unordered (C.IsUnlocked u) m = same old.heap new.heap (ap (λ (h : Handles). h.heap.order) u.rest)
+  unordered (C.IsFreed f) m = freed old.heap new.heap f.slot (ap (λ (h : Handles). h.heap) f.rest)
+  unordered (C.IsNewest n) m = absurd (false≢true (sym m ∙ ap may_order n.asked))
+  unordered (C.IsOldest n) m = absurd (false≢true (sym m ∙ ap may_order n.asked))
+  unordered (C.IsEntered e) m = absurd (false≢true (sym m ∙ ap may_order e.asked))
+  unordered (C.IsAllocated a) m = absurd (false≢true (sym m ∙ ap may_order a.asked))
+  unordered (C.IsCompacted c) m = compacted old.heap new.heap is.heap c.count c.settled
+  unordered (C.IsModified c) m = absurd (false≢true (sym m ∙ ap may_order c.asked))
+  unordered (C.IsDiscarded d) m = absurd (false≢true (sym m ∙ ap may_order d.asked))
+  unordered (C.IsResized r) m = absurd (false≢true (sym m ∙ ap may_order r.asked))
+
+  -- a call names its object
+  about : (handle slot : ℕ) → handle_in call ≡ Some handle → C.slot_of_handle old handle ≡ Some slot → C.IsAbout old call slot
+  about handle slot names found = subst (λ p. C.IsSomeAnd p (λ h. C.slot_of_handle old h ≡ Some slot)) (sym names) found
+
+  abbrev Others : Type 0
+  Others = C.OthersStand (C.IsAbout old call) (next_slot old call answer new) old.heap new.heap
+
+  others_resized : C.Resized old call answer new → Others
+  others_resized r = inr (r.slot, inl (about r.handle r.slot (ap handle_in r.asked) r.named.found), subst (λ s. OnlyLeave new.heap (without r.slot old.heap.order) (without s new.heap.order)) (sym (next_own old new is call answer r)) (resized_leaves old new is call answer r))
+
+  module _ (same_slot : (q : ℕ) → next_slot old call answer new q ≡ q) where
+    left_by : (slot : ℕ) → OnlyLeave new.heap (without slot old.heap.order) (without slot new.heap.order) → OnlyLeave new.heap (without slot old.heap.order) (without (next_slot old call answer new slot) new.heap.order)
+    left_by slot l = subst (λ s. OnlyLeave new.heap (without slot old.heap.order) (without s new.heap.order)) (sym (same_slot slot)) l
+
+    of_named : (handle slot : ℕ) → handle_in call ≡ Some handle → C.slot_of_handle old handle ≡ Some slot → without slot new.heap.order ≡ without slot old.heap.order → Others
+    of_named handle slot names found e = inr (slot, inl (about handle slot names found), left_by slot (stays old.heap new.heap (without slot old.heap.order) (without slot new.heap.order) e))
+
+    others : C.Outcome old call answer new → Others
+    others (C.IsSame s e) = inl (same old.heap new.heap (ap (λ (h : Handles). h.heap.order) e))
+    others (C.IsUnmoved s e) = inl (same old.heap new.heap (ap (λ (h : Handles). h.heap.order) e))
+    others (C.IsLocked l) = of_named l.handle l.slot (ap handle_in l.asked) l.named.found (ap (λ (h : Handles). without l.slot h.heap.order) l.rest ∙ touched_rest l.slot old.heap.order)
+    others (C.IsUnlocked u) = inl (same old.heap new.heap (ap (λ (h : Handles). h.heap.order) u.rest))
+    others (C.IsFreed f) = inl (freed old.heap new.heap f.slot (ap (λ (h : Handles). h.heap) f.rest))
+    others (C.IsNewest n) = of_named n.handle n.slot (ap handle_in n.asked) n.named.found (ap (λ (h : Handles). without n.slot h.heap.order) n.rest ∙ newest_rest n.slot old.heap.order)
+    others (C.IsOldest n) = of_named n.handle n.slot (ap handle_in n.asked) n.named.found (ap (λ (h : Handles). without n.slot h.heap.order) n.rest ∙ oldest_rest n.slot old.heap.order)
+    others (C.IsEntered e) = inl (same old.heap new.heap (ap (λ (h : Heap). h.order) e.entered.entered))
+    others (C.IsAllocated a) = inr (a.slot, inr (unused old is a.slot (C.slots_for (C.rounded_size a.size)) (some_slots (C.rounded_size a.size)) a.free), left_by a.slot (allocated old.heap new.heap is.heap a.slot a.count (C.alloc_options a.flags) a.object a.settled))
+    others (C.IsCompacted c) = inl (compacted old.heap new.heap is.heap c.count c.settled)
+    others (C.IsModified m) = of_named m.handle m.slot (ap handle_in m.asked) m.named.found m.changes.rest
+    others (C.IsDiscarded d) = of_named d.handle d.slot (ap handle_in d.asked) d.named.found (ap (λ (h : Handles). without d.slot h.heap.order) d.rest ∙ twice_out d.slot old.heap.order)
+    others (C.IsResized r) = others_resized r
+
+pub unordered_law : C.UnorderedLaw
+unordered_law old new call answer is m step = unordered old new is call answer (outcome old new call _ is step) m
+
+pub others_order_law : C.OthersOrderLaw
+others_order_law old new call answer is step = elim (followed old new call _ is step) [
+  | inl same_slot ↦ others old new is call _ same_slot (outcome old new call _ is step)
+  | inr r ↦ others_resized old new is call _ r
+]
+
+-- A new object.
+pub new_object_law : C.NewObjectLaw
+new_object_law old new flags size handle is a listed = made (C.is_absent_asked flags size) a.made
+  where
+    never : (b : Bool) → (b && false) ≡ true → ⊥
+    never true t = false≢true t
+    never false t = false≢true t
+
+    made : (b : Bool) → C.MatchBool b (C.Enters old.heap a.slot (C.kind_asked flags) new.heap) (C.Allocates old.heap a.slot (C.rounded_size size) (C.kind_asked flags) 0 (C.alloc_options flags) true new.heap)
+        → (left : List ℕ) × OnlyLeave new.heap old.heap.order left × C.IsNewestOf a.slot left new.heap.order
+    made true e = absurd (never (C.is_discardable (C.kind_asked flags)) (ap C.is_in_order (sym (ap (λ h. object_at h a.slot) e.entered ∙ inserted_here old.heap.objects a.slot (record { kind = C.kind_asked flags; locks = 0; bytes = None }) a.slot refl)) ∙ listed))
+    made false m =
+        let s : (k : ℕ) × (o : Object) × C.Settles old.heap (C.stays_for a.slot (C.alloc_options flags)) (C.with_ordered (C.discarded old.heap k (Some a.slot)) a.slot o (C.with_newest a.slot o)) new.heap =
+        settled old.heap a.slot (C.alloc_options flags) (C.discards_needed old.heap (C.rounded_size size) (Some a.slot) (C.alloc_options flags)) (C.IsNew (C.alloc_options flags).zero (C.rounded_size size) (C.kind_asked flags) 0) (C.with_newest a.slot) new.heap m.request in
+        let ids = C.take s.0 (C.eligible (blocks old.heap) old.heap.order (Some a.slot)) in
+        let here = ap (λ h. object_at h a.slot) s.2.same ∙ inserted_here (C.discarded old.heap s.0 (Some a.slot)).objects a.slot s.1 a.slot refl in (
+          C.without_all ids old.heap.order,
+          record { gone = ids; without_bytes = gone_bytes old.heap new.heap (Some a.slot) s.0 ((others_law old.heap new.heap is.heap s.0).0 a.slot (C.alloc_options flags) s.1 (C.with_newest a.slot s.1) s.2); order_is = refl },
+          ap (λ h. h.order) s.2.same ∙ ap (λ b. cond {A = List ℕ} b (newest a.slot (C.discarded old.heap s.0 (Some a.slot)).order) (without a.slot (C.discarded old.heap s.0 (Some a.slot)).order)) (sym (ap C.is_in_order here) ∙ listed)
+              ∙ ap (newest a.slot) (absents_order ids old.heap),
+        )
+
+-- Uses of an object in the order.
+module _ (old new : Handles) (is : C.AreHandles old) (handle slot : ℕ) (o : Object) (found : C.slot_of_handle old handle ≡ Some slot) (there : object_at old.heap slot ≡ Some o) (listed : C.is_in_order (Some o) ≡ true) where
+  parts : C.IsTrue (C.is_discardable o.kind) × C.IsTrue (is_some o.bytes)
+  parts = C.and_parts (C.is_discardable o.kind) (is_some o.bytes) listed
+
+  member : is_member slot old.heap.order ≡ true
+  member = is.heap.in_order slot ∙ ap C.is_in_order there ∙ listed
+
+  kind_loose : (kind : Kind) → C.is_discardable kind ≡ true → C.is_fixed kind ≡ false
+  kind_loose Fixed t = absurd (false≢true t)
+  kind_loose Moveable t = refl
+  kind_loose Discardable t = refl
+
+  abbrev locked_heap : Heap
+  locked_heap = C.with_ordered old.heap slot (record o { locks = o.locks + 1 }) (C.touched slot)
+
+  locked : o.locks < 255 → C.after_lock old.heap slot ≡ Ok locked_heap
+  locked few =
+      let done : Result Heap Refusal = Ok locked_heap in
+      ap (λ (p : Option Object). elim p as (λ _. Result Heap Refusal) [
+        | None ↦ Err refusals.Absent
+        | Some o ↦ cond (not (is_some o.bytes)) (Err refusals.Absent) (cond (C.is_fixed o.kind) (Err refusals.Fixed) (cond (o.locks == 255) (Err refusals.LockFull) (Ok (C.with_ordered old.heap slot (record o { locks = o.locks + 1 }) (C.touched slot)))))
+      ]) there
+      ∙ ap (λ b. cond {A = Result Heap Refusal} (not b) (Err refusals.Absent) (cond (C.is_fixed o.kind) (Err refusals.Fixed) (cond (o.locks == 255) (Err refusals.LockFull) done))) parts.1
+      ∙ ap (λ b. cond {A = Result Heap Refusal} b (Err refusals.Fixed) (cond (o.locks == 255) (Err refusals.LockFull) done)) (kind_loose o.kind parts.0)
+      ∙ ap (λ b. cond {A = Result Heap Refusal} b (Err refusals.LockFull) done) (C.ne_eqb o.locks 255 (λ e. omega (arith, e, few)))
+
+  abbrev lock_outcome : ℕ → Result Heap Refusal → Answer × Handles
+  lock_outcome slot r = elim r [
+    | Ok heap ↦ (Dword (C.far_pointer (C.selector_of slot) 0), record old { heap = heap })
+    | Err refusals.Fixed ↦ (Dword (C.far_pointer (C.selector_of slot) 0), old)
+    | Err _ ↦ (Dword 0, old)
+  ]
+
+  use_lock : o.locks < 255 → new ≡ (C.global_lock old handle).1 → C.IsNewestOf slot old.heap.order new.heap.order
+  use_lock few e = ap (λ (h : Handles). h.heap.order) e
+      ∙ ap (λ (s : Option ℕ). (elim s as (λ _. Answer × Handles) [ None ↦ (Dword 0, old) | Some slot ↦ lock_outcome slot (C.after_lock old.heap slot) ]).1.heap.order) found
+      ∙ ap (λ r. (lock_outcome slot r).1.heap.order) (locked few)
+      ∙ ap (λ b. cond {A = List ℕ} b (newest slot old.heap.order) old.heap.order) member
+
+  may : C.refused_order old.heap slot ≡ None
+  may = ap (λ (p : Option Object). elim p as (λ _. Option Refusal) [
+    | None ↦ Some refusals.Absent
+    | Some o ↦ cond (not (is_some o.bytes)) (Some refusals.Absent) (cond (C.is_discardable o.kind) None (Some refusals.NotDiscardable))
+  ]) there ∙ ap (λ b. cond {A = Option Refusal} (not b) (Some refusals.Absent) (cond (C.is_discardable o.kind) None (Some refusals.NotDiscardable))) parts.1
+      ∙ ap (λ b. cond {A = Option Refusal} b None (Some refusals.NotDiscardable)) parts.0
+
+  abbrev order_outcome : Result Heap Refusal → Answer × Handles
+  order_outcome r = elim r [ Ok heap ↦ (Word handle, record old { heap = heap }) | Err _ ↦ (Word 0, old) ]
+
+  use_order : (order : ℕ → List ℕ → List ℕ)
+      → new ≡ (C.handle_or_0 (λ heap id. elim (C.refused_order heap id) [ Some refusal ↦ Err refusal | None ↦ Ok (record heap { order = order id heap.order }) ]) old handle).1 → new.heap.order ≡ order slot old.heap.order
+  use_order order e = ap (λ (h : Handles). h.heap.order) e
+      ∙ ap (λ (s : Option ℕ). (elim s as (λ _. Answer × Handles) [
+        | None ↦ (Word 0, old)
+        | Some slot ↦ order_outcome (elim (C.refused_order old.heap slot) [ Some refusal ↦ Err refusal | None ↦ Ok (record old.heap { order = order slot old.heap.order }) ])
+      ]).1.heap.order) found
+      ∙ ap (λ (f : Option Refusal). (order_outcome (elim f [ Some refusal ↦ Err refusal | None ↦ Ok (record old.heap { order = order slot old.heap.order }) ])).1.heap.order) may
+
+pub use_law : C.UseLaw
+use_law old new handle slot o answer is found there listed = (
+  (λ few step. use_lock old new is _ slot o found there listed few step.1),
+  (λ step. use_order old new is _ slot o found there listed newest step.1),
+  (λ step. use_order old new is _ slot o found there listed C.oldest step.1),
+)

@@ -1,0 +1,5 @@
+use Rattle.w16_model.proofs.Longest.{room_is_longest}
+use Rattle.w16_laws.proofs.model.room_is_longest_stretch.Goals as goal
+
+pub returns : goal.returns
+returns c = room_is_longest

@@ -1,0 +1,3 @@
+pub mod CallEffects
+pub mod ModuleEffects
+pub mod LocalEffects

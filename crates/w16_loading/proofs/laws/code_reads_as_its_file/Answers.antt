@@ -1,5 +1,0 @@
-use Rattle.w16_loading.proofs.CodeLaw.{code_law}
-use Rattle.w16_loading.proofs.laws.code_reads_as_its_file.Goals as goal
-
-pub returns : goal.returns
-returns g c = code_law _

@@ -1,5 +1,0 @@
-use Rattle.w16_loading.proofs.RefusedLoad.{early_refusal_law}
-use Rattle.w16_loading.proofs.laws.early_refusal_changes_nothing.Goals as goal
-
-pub returns : goal.returns
-returns g c = early_refusal_law _

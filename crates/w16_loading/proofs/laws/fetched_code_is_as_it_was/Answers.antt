@@ -1,5 +1,0 @@
-use Rattle.w16_loading.proofs.Again.{fetch_again_law}
-use Rattle.w16_loading.proofs.laws.fetched_code_is_as_it_was.Goals as goal
-
-pub returns : goal.returns
-returns g c = fetch_again_law _

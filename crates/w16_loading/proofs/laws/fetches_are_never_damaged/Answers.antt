@@ -1,5 +1,0 @@
-use Rattle.w16_loading.proofs.Again.{fetch_faults_law}
-use Rattle.w16_loading.proofs.laws.fetches_are_never_damaged.Goals as goal
-
-pub returns : goal.returns
-returns g c = fetch_faults_law _

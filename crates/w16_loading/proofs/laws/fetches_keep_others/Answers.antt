@@ -1,5 +1,0 @@
-use Rattle.w16_loading.proofs.Fetched.{fetch_law}
-use Rattle.w16_loading.proofs.laws.fetches_keep_others.Goals as goal
-
-pub returns : goal.returns
-returns g c = fetch_law _

@@ -1,5 +1,0 @@
-use Rattle.w16_loading.proofs.Closed.{one_law}
-use Rattle.w16_loading.proofs.laws.files_decide_a_closure.Goals as goal
-
-pub returns : goal.returns
-returns c = one_law

@@ -1,5 +1,0 @@
-use Rattle.w16_loading.proofs.Owners.{owner_law}
-use Rattle.w16_loading.proofs.laws.owners_are_told.Goals as goal
-
-pub returns : goal.returns
-returns c = owner_law

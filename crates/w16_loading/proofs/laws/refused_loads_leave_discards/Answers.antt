@@ -1,5 +1,0 @@
-use Rattle.w16_loading.proofs.RefusedLoad.{refused_load_law}
-use Rattle.w16_loading.proofs.laws.refused_loads_leave_discards.Goals as goal
-
-pub returns : goal.returns
-returns g c = refused_load_law _

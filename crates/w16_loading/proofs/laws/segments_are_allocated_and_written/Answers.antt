@@ -1,5 +1,0 @@
-use Rattle.w16_loading.proofs.Filled.{fill_law}
-use Rattle.w16_loading.proofs.laws.segments_are_allocated_and_written.Goals as goal
-
-pub returns : goal.returns
-returns c = fill_law

@@ -1,5 +1,0 @@
-use Rattle.w16_loading.proofs.Slots.{slots_law}
-use Rattle.w16_loading.proofs.laws.slots_are_chosen_by_count.Goals as goal
-
-pub returns : goal.returns
-returns c = slots_law

@@ -1,5 +1,0 @@
-use Rattle.w16_machine.proofs.Worlds.{fewest_law}
-use Rattle.w16_machine.proofs.laws.runs_discard_fewest.Goals as goal
-
-pub returns : goal.returns
-returns g c = fewest_law g.S.Store.is_honest

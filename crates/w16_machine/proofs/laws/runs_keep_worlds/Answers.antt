@@ -1,8 +1,0 @@
-use Rattle.w16_machine.proofs.Worlds.{run_files_law, run_world_law}
-use Rattle.w16_machine.proofs.laws.runs_keep_worlds.Goals as goal
-
-pub returns-clause-worlds : goal.returns-clause-worlds
-returns-clause-worlds g c = run_world_law g.S.Store.is_honest
-
-pub returns-clause-files : goal.returns-clause-files
-returns-clause-files g c = run_files_law g.S.Store.is_honest

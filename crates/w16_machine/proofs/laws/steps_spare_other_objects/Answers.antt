@@ -1,5 +1,0 @@
-use Rattle.w16_machine.proofs.Bystanders.{step_spares_law}
-use Rattle.w16_machine.proofs.laws.steps_spare_other_objects.Goals as goal
-
-pub returns : goal.returns
-returns g c = step_spares_law g.S.Store.is_honest

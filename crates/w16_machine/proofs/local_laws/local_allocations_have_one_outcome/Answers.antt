@@ -1,8 +1,0 @@
-use Rattle.w16_machine.proofs.{LocalOneGrowth.one_growth_law, LocalRefusals.outcome_law}
-use Rattle.w16_machine.proofs.local_laws.local_allocations_have_one_outcome.Goals as goal
-
-pub returns-clause-outcome : goal.returns-clause-outcome
-returns-clause-outcome c = outcome_law
-
-pub returns-clause-growth : goal.returns-clause-growth
-returns-clause-growth c = one_growth_law

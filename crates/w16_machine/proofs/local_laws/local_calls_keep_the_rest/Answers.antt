@@ -1,8 +1,0 @@
-use Rattle.w16_machine.proofs.{LocalFrame.frame_law, LocalLonger.growth_law}
-use Rattle.w16_machine.proofs.local_laws.local_calls_keep_the_rest.Goals as goal
-
-pub returns-clause-rest : goal.returns-clause-rest
-returns-clause-rest c = frame_law
-
-pub returns-clause-growth : goal.returns-clause-growth
-returns-clause-growth c = growth_law

@@ -1,8 +1,0 @@
-use Rattle.w16_machine.proofs.LocalNames.{names_law, named_law}
-use Rattle.w16_machine.proofs.local_laws.local_names_are_exact.Goals as goal
-
-pub returns-clause-names : goal.returns-clause-names
-returns-clause-names c = names_law
-
-pub returns-clause-named : goal.returns-clause-named
-returns-clause-named c = named_law

@@ -1,5 +1,0 @@
-use Rattle.w16_model.proofs.AtEnds.{answer_law}
-use Rattle.w16_model.proofs.ends.answers_are_told_before.Goals as goal
-
-pub returns : goal.returns
-returns c = answer_law

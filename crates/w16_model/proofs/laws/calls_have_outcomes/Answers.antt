@@ -1,5 +1,0 @@
-use Rattle.w16_model.proofs.CallOutcomes.{outcome}
-use Rattle.w16_model.proofs.laws.calls_have_outcomes.Goals as goal
-
-pub returns : goal.returns
-returns c = outcome

@@ -1,5 +1,0 @@
-use Rattle.w16_model.proofs.Discards.{room-discarded}
-use Rattle.w16_model.proofs.laws.discards_keep_their_promise.Goals as goal
-
-pub returns : goal.returns
-returns c = room-discarded

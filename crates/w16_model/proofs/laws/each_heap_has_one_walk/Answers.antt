@@ -1,5 +1,0 @@
-use Rattle.w16_model.proofs.Listed.{walk_law}
-use Rattle.w16_model.proofs.laws.each_heap_has_one_walk.Goals as goal
-
-pub returns : goal.returns
-returns c = walk_law

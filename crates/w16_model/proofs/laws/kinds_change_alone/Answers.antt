@@ -1,5 +1,0 @@
-use Rattle.w16_model.proofs.KindChanges.{kind_law}
-use Rattle.w16_model.proofs.laws.kinds_change_alone.Goals as goal
-
-pub returns : goal.returns
-returns c = kind_law

@@ -1,5 +1,0 @@
-use Rattle.w16_model.proofs.Starts.{hole_is_longest}
-use Rattle.w16_model.proofs.laws.longest_hole_is_a_hole.Goals as goal
-
-pub returns : goal.returns
-returns c = hole_is_longest

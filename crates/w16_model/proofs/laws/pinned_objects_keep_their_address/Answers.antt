@@ -1,5 +1,0 @@
-use Rattle.w16_model.proofs.Outcomes.{address_law}
-use Rattle.w16_model.proofs.laws.pinned_objects_keep_their_address.Goals as goal
-
-pub returns : goal.returns
-returns c = address_law

@@ -1,5 +1,0 @@
-use Rattle.w16_model.proofs.Reallocations.{fewest_law}
-use Rattle.w16_model.proofs.laws.reallocations_discard_fewest.Goals as goal
-
-pub returns : goal.returns
-returns c = fewest_law

@@ -1,5 +1,0 @@
-use Rattle.w16_model.proofs.Longest.{room_is_largest}
-use Rattle.w16_model.proofs.laws.room_is_largest.Goals as goal
-
-pub returns : goal.returns
-returns c = room_is_largest

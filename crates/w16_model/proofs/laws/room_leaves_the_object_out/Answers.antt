@@ -1,5 +1,0 @@
-use Rattle.w16_model.proofs.LeftOut.{left_out_law}
-use Rattle.w16_model.proofs.laws.room_leaves_the_object_out.Goals as goal
-
-pub returns : goal.returns
-returns c = left_out_law
