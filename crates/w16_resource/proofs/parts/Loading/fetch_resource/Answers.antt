@@ -13,6 +13,9 @@ returns-in_err-read-clause-step g c =
     rw (p.1, p.2, ← c.self.view_is) (λ is lacks some. fetched is _ (rw c.slot_of.ensures.value at c.in-Some.ensures.found) c.read.ensures.stays
     (unread _ _ _ _ _ _ c.in_err-read.field-0.0 c.in_err-read.ensures.faults c.in_err-read.ensures.device (λ s. c.in_err-read.ensures.exact s.file s.truly s.stored s.short s.inside)))
 
+pub returns-in_err-read-clause-refused : goal.returns-in_err-read-clause-refused
+returns-in_err-read-clause-refused g c = let p = err_from_is_err_and c.from_residual.result c.from_residual.ensures.1 in rw (p.1, ← c.self.view_is) refl
+
 pub returns-clause-step : goal.returns-clause-step
 returns-clause-step g c = rw (← c.self.view_is) (λ is lacks some. fetched is _ (rw c.slot_of.ensures.value at c.in-Some.ensures.found) c.read.ensures.stays
     (filled _ _ _ _ _ _ c.reveal_handles.ensures.heap _
