@@ -29,4 +29,4 @@ passed_bytes (b ∷ bs) e = let parts = C.and_parts (C.nat_lt b 256) (has_bytes 
 
 pub bytes_pass : (file : List ℕ) → AreBytes file → has_bytes file ≡ true
 bytes_pass [] all = refl
-bytes_pass (b ∷ bs) all = C.and_from (C.nat_lt b 256) (has_bytes bs) (C.lt-ltb b 256 (C.All-head (λ x. x < 256) b bs all)) (bytes_pass bs (C.All-tail (λ x. x < 256) b bs all))
+bytes_pass (b ∷ bs) all = C.and_from _ _ (C.lt-ltb b 256 (C.All-head (λ x. x < 256) b bs all)) (bytes_pass bs (C.All-tail (λ x. x < 256) b bs all))

@@ -19,7 +19,7 @@ numbered_suc {X} xs i = ap (λ b. cond {A = Option X} b None (slice_get xs (suc 
 
 pub numbered_map : {X Y : Type 0} (f : X → Y) (xs : List X) (number : ℕ) → numbered (map f xs) number ≡ option_map f (numbered xs number)
 numbered_map f xs zero = refl
-numbered_map f xs (suc i) = numbered_suc (map f xs) i ∙ C.slice_get-map f xs i ∙ ap (option_map f) (sym (numbered_suc xs i))
+numbered_map f xs (suc i) = numbered_suc _ i ∙ C.slice_get-map f xs i ∙ ap (option_map f) (sym (numbered_suc xs i))
 
 at_entry : (xs : List (Option ne_entry.Entry)) (i : ℕ) → unwrap_or (slice_get (map (option_map entry_in) xs) i) None ≡ option_map entry_in (C.slice_index_or xs i None)
 at_entry [] i = refl
@@ -28,17 +28,17 @@ at_entry (x ∷ xs) (suc i) = at_entry xs i
 
 pub entry_law : (t : Tables) (ordinal : ℕ) → loading.entry_at (tables_in t) ordinal ≡ option_map entry_in (entry_at t.entries ordinal)
 entry_law t zero = refl
-entry_law t (suc i) = ap (λ (p : Option (Option loading.Entry)). unwrap_or p None) (numbered_suc (map (option_map entry_in) t.entries) i) ∙ at_entry t.entries i
+entry_law t (suc i) = ap (λ (p : Option (Option loading.Entry)). unwrap_or p None) (numbered_suc _ i) ∙ at_entry _ i
 
 resource_place : (types : List (ne_resources.Label × List ne_resources.Entry)) (place : ℕ) → numbered (listed_resources types) place ≡ C.resource_at types place
 resource_place types zero = refl
-resource_place types (suc i) = numbered_suc (listed_resources types) i
+resource_place types (suc i) = numbered_suc _ i
 
 pub place_law : (t : Tables) (number : ℕ) → (numbered (tables_in t).segments number ≡ option_map C.segment_in (numbered t.segments number))
     × (numbered (tables_in t).resources number ≡ option_map resource_in (C.resource_at t.resources number))
 place_law t number = (
-  numbered_map C.segment_in t.segments number,
-  numbered_map resource_in (listed_resources t.resources) number ∙ ap (option_map resource_in) (resource_place t.resources number),
+  numbered_map _ _ number,
+  numbered_map _ _ number ∙ ap (option_map resource_in) (resource_place t.resources number),
 )
 
 -- Names.

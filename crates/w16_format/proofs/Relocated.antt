@@ -15,12 +15,12 @@ held_by file s (Err e) held h = cc
 held_is : (file : List ℕ) (t : Tables) (s : Segment) (held : Held) → checked file t s ≡ Ok held
     → (held.bytes ≡ data_of file s) × (check_from (offer_of file t) (data_of file s) (records_of file s) s.records 0 [] ≡ Ok held.records)
 unfolding checked
-held_is file t s held h = held_by file s (check_from (offer_of file t) (data_of file s) (records_of file s) s.records 0 []) held h
+held_is file t s held h = held_by file s (check_from _ _ (records_of file s) _ 0 []) held h
 
 pub is_relocated : (file : List ℕ) (t : Tables) (s : Segment) (held : Held) → checked file t s ≡ Ok held → C.IsRelocated file t s held
 is_relocated file t s held h =
     let p = held_is file t s held h in
-    let passed = C.passed_is_sound (offer_of file t) (data_of file s) (records_of file s) s.records held.records p.1 in
+    let passed = C.passed_is_sound _ _ (records_of file s) _ _ p.1 in
     let names = C.naming_is (data_of file s) held.records passed.sound.0 passed.sound.1 in
     let sound : IsSound (data_of file s) held.records (naming (data_of file s) held.records) = subst (λ named. IsSound (data_of file s) held.records named) names passed.sound.1 in record {
       same = p.0;
@@ -30,7 +30,7 @@ is_relocated file t s held h =
           let image : IsImage (data_of file s) held.records (map far_in values) (naming (data_of file s) held.records) bytes =
           subst (λ xs. IsImage xs held.records (map far_in values) (naming xs held.records) bytes) p.0 is in
           let given : bytes ≡ image_of (data_of file s) held.records (map far_in values) (length bytes) =
-          C.image_is_of (data_of file s) held.records (map far_in values) (naming (data_of file s) held.records) bytes sound image in
+          C.image_is_of _ _ _ (naming _ _) bytes sound image in
           ap (λ r. image_of (data_of file s) (C.records_in r) (map far_in values) s.size) h
           ∙ ap (λ n. image_of (data_of file s) held.records (map far_in values) n) (sym long) ∙ sym given;
     }
@@ -39,7 +39,7 @@ word_same : (n : ℕ) → n < 65536 → n % 65536 ≡ n
 word_same n lt = omega arith
 
 far_same : (far : words.Far) → IsFar far → far_in (far_of far) ≡ far
-far_same far is = let a = word_same far.selector is.0 in let b = word_same far.offset is.1 in λ i. record { selector = a i; offset = b i }
+far_same far is = let a = word_same _ is.0 in let b = word_same _ is.1 in λ i. record { selector = a i; offset = b i }
 
 pub words_same : (values : List words.Far) → All IsFar values → map far_in (map far_of values) ≡ values
 words_same [] all = refl
@@ -52,8 +52,8 @@ pub relocated_law : (t : Tables) (source table : List ℕ) (records : List C.Rec
 relocated_law t source table records values bytes sound are_words room image =
     let check = λ (segments count : ℕ). check_from (any_offer segments (length t.references)) source table count 0 [] in
     let write = λ (fs : List words.Far). Some (image_of source records fs (length bytes)) in
-    ap (C.written source (map far_of values) (length bytes))
-    (ap (λ n. check n (length (map far_of values))) (length-map t.segments C.segment_in) ∙ ap (check (length t.segments)) (length-map values far_of)
-    ∙ C.sound_passes (any_offer (length t.segments) (length t.references)) source table (length values) records sound)
-    ∙ ap (λ b. cond b (write (map far_in (map far_of values))) None) (C.le-leb (length source) (length bytes) room)
-    ∙ ap write (words_same values are_words) ∙ ap Some (sym (C.image_is_of source records values sound.sound.0 bytes sound.sound.1 image))
+    ap (C.written source (map far_of values) _)
+    (ap (λ n. check n (length (map far_of values))) (length-map t.segments C.segment_in) ∙ ap (check (length _)) (length-map values far_of)
+    ∙ C.sound_passes _ source table _ records sound)
+    ∙ ap (λ b. cond b (write (map far_in (map far_of values))) None) (C.le-leb _ _ room)
+    ∙ ap write (words_same values are_words) ∙ ap Some (sym (C.image_is_of source records values _ bytes sound.sound.1 image))

@@ -11,7 +11,7 @@ full_by true n e lt = (omega arith, omega arith)
 full_by false n e lt = (grind arith, omega arith)
 
 full : (n : ℕ) → n < 65536 → (0 < or_64k n) × (or_64k n ≤ 65536)
-full n lt = full_by (C.nat_eq n 0) n refl lt
+full n lt = full_by _ n refl lt
 
 len_small : (file : List ℕ) (shift at : ℕ) (s : Segment) → AreBytes file → C.IsData file shift at s → s.len ≤ 65536
 len_small file shift at s all (inl none) = let e = none.2 in omega (arith, e)
@@ -25,9 +25,9 @@ round_fits n some few = (omega arith, omega arith)
 
 size_fits : (file : List ℕ) (shift at : ℕ) (s : Segment) → AreBytes file → IsSegment file shift at s → (0 < s.size) × (s.size ≤ C.LARGEST_OWNED) × C.IsMultiple GRAIN s.size
 size_fits file shift at s all is =
-    let least = full (word_of file (at + 6)) (word_small file all (at + 6)) in
-    let larger_one = larger s.len (or_64k (word_of file (at + 6))) least.0 least.1 (len_small file shift at s all is.placed) in
-    let fits = round_fits (max s.len (or_64k (word_of file (at + 6)))) larger_one.0 larger_one.1 in
+    let least = full (word_of file _) (word_small file all _) in
+    let larger_one = larger s.len _ least.0 least.1 (len_small file shift at s all is.placed) in
+    let fits = round_fits _ larger_one.0 larger_one.1 in
     let same : rounded (max s.len (or_64k (word_of file (at + 6)))) ≡ s.size = sym is.size in (
       subst (λ n. 0 < n) same fits.0,
       subst (λ n. n ≤ 65536) same fits.1,
@@ -40,7 +40,7 @@ narrow : (n : ℕ) → n % 65536 < 65536
 narrow n = omega arith
 
 far_is : (far : Far) → IsFar (far_in far)
-far_is far = (narrow far.selector, narrow far.offset)
+far_is far = (narrow _, narrow _)
 
 fars_are : (values : List Far) → All IsFar (map far_in values)
 fars_are values = C.All-map IsFar far_in values (λ k d lt. far_is _)
@@ -53,8 +53,8 @@ segment_fits file t shift at s all is =
       rounded = size.2;
       image = λ values.
           let records = C.records_in (C.checked file t s) in (
-            C.length-map-range_with_len (C.image_at (C.patches (data_of file s) records (map far_in values) (C.naming (data_of file s) records)) (byte (data_of file s))) 0 s.size,
-            C.image_bytes (data_of file s) records (map far_in values) s.size (C.All-take (λ b. b < 256) s.len (drop s.place file) (C.All-drop (λ b. b < 256) s.place file all)) (fars_are values),
+            C.length-map-range_with_len (C.image_at (C.patches (data_of file s) records (map far_in values) (C.naming (data_of file s) records)) (byte _)) 0 s.size,
+            C.image_bytes _ records (map far_in values) s.size (C.All-take (λ b. b < 256) s.len _ (C.All-drop (λ b. b < 256) s.place file all)) (fars_are values),
           );
     }
 
@@ -71,7 +71,7 @@ less m n len size least e f =
     omega (arith, a, b, f)
 
 room_one : (file : List ℕ) (shift at : ℕ) (s : Segment) → IsSegment file shift at s → length (data_of file s) ≤ s.size
-room_one file shift at s is = less _ (length (drop s.place file)) s.len s.size (or_64k (word_of file (at + 6))) (C.length-take s.len (drop s.place file)) is.size
+room_one file shift at s is = less _ (length _) s.len s.size _ (C.length-take s.len _) is.size
 
 pub room : (file : List ℕ) (shift at : ℕ) (ss : List Segment) (k : ℕ) (s : Segment) → C.AreSegments file shift at ss → C.slice_get ss k ≡ Some s → length (data_of file s) ≤ s.size
 room file shift at [] k s are found = cc

@@ -15,10 +15,10 @@ pub use Rattle.w16_holes.specs.declared.holes.TheConstants.{LAST_END}
 pub use Rattle.w16_holes.specs.Law.{BytesLaw, IsIn, JoinedLaw, TakenLaw}
 pub use Rattle.w16_holes.specs.Thread.{AreThreaded, HasRoom, HasWords, IsThread, first_of, next_above, no_hole, put_hole, put_link, put_words, room}
 pub use Rattle.w16_holes.specs.declared.side.SideHoles.TheInside.{Inside}
-pub use Rattle.w16_model.proofs.Common.{IfSome, IsMultiple, List, [], ap, arith, cases_lt, common_steps, eq-eqb, false, inl, inr, le-leb, length, lt-leb, map, max, min, nat_le, option_map}
+pub use Rattle.w16_model.proofs.Common.{IfSome, IsMultiple, List, [], ap, arith, cases_lt, eq-eqb, false, inl, inr, le-leb, length, lt-leb, map, max, min, nat_le, option_map}
 pub use Rattle.w16_model.proofs.Common.{part, put_part, refl, replicate, set, subst, suc, sym, unwrap_or, zero, ℕ, ◌*◌, ◌++◌, ◌+◌, ◌-◌, ◌/◌, ◌<◌, ◌==◌, ◌∙◌, ◌∷◌, ◌≡◌, ◌≢◌, ◌≤◌, ◌⊎◌}
 pub use Rattle.w16_model.proofs.Parts.{drop-put_part, drop_higher, length-put_part, part-put_part, part_above, part_below, take-put_part, take_lower}
-pub use Rattle.w16_region.proofs.Common.{counted, length-part}
+pub use Rattle.w16_region.proofs.Common.{length-part}
 pub use Rattle.w16_model.specs.Table.{IsSameOutside}
 pub use Rattle.w16_model.specs.declared.Span.{Span}
 pub use Rattle.w16_region.proofs.Words.{IsSameOutside-put_word, length-put_word, word_in-put_word, word_in-same}

@@ -93,20 +93,20 @@ pub uses_apart_law : C.UsesApartLaw
 uses_apart_law old new handle answer m is at used f = record {
   answered = f.ended.answered ∙ ap (λ b. C.cond b 1 0) (ap (λ w. finmap.contains_key w.modules handle) left ∙ ap is_some here);
   less = ap (λ w. C.module_at w.modules handle) all ∙ ap C.module_in here;
-  others = λ other d. ap (λ w. finmap.get w.modules other) all ∙ C.inserted_other old.modules handle (Loaded (record m { uses = m.uses - 1 })) other d;
+  others = λ other d. ap (λ w. finmap.get w.modules other) all ∙ C.inserted_other _ handle (Loaded (record m { uses = m.uses - 1 })) other d;
   handles = ap (λ w. w.handles) all;
   loads = ap (λ w. w.loads) all;
   unused = λ e. all ∙ unused_same old is handle m loaded e;
 }
   where
     loaded : finmap.get old.modules handle ≡ Some (Loaded m)
-    loaded = loaded_is (finmap.get old.modules handle) m at
+    loaded = loaded_is _ m at
 
     here : finmap.get (finmap.insert old.modules handle (Loaded (record m { uses = m.uses - 1 }))) handle ≡ Some (Loaded (record m { uses = m.uses - 1 }))
-    here = C.inserted_here old.modules handle (Loaded (record m { uses = m.uses - 1 })) handle refl
+    here = C.inserted_here _ handle (Loaded (record m { uses = m.uses - 1 })) handle refl
 
     left : f.left ≡ less old is handle m loaded
-    left = none_goes old is handle m loaded used f.ended.gone f.left (C.subst (λ w. Go w f.ended.gone f.left) (is_less old is handle m loaded) f.ended.went)
+    left = none_goes old is handle m loaded used _ f.left (C.subst (λ w. Go w f.ended.gone f.left) (is_less old is handle m loaded) f.ended.went)
 
     all : new ≡ less old is handle m loaded
     all = f.after ∙ ap C.without_orphans left ∙ same_without old is handle m loaded

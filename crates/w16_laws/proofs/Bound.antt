@@ -51,7 +51,7 @@ new_modules old module_of fs hs ss free handle m n a b = one _ m n a (ap module_
     out g mem e = absurd_none _ m (ap (finmap.get old) e ∙ free _ (given_handle 0 fs hs ss g mem)) a
 
 fulfilled : (gives : C.Giving) (old : LoadingWorld) (closure : C.Closure) (answer : C.Answer) (new : LoadingWorld) → C.Fulfils gives old closure answer new → Good old.modules new.modules
-fulfilled gives old closure answer new f = C.subst (λ w. Good old.modules w.modules) (sym f.after) (turn f.failure)
+fulfilled gives old closure answer new f = C.subst (λ w. Good old.modules w.modules) (sym f.after) (turn _)
   where
     turn : (failure : Option C.Failure) → Good old.modules (C.left failure (C.with_heap (C.named old closure f.choice) f.heap) (C.undone old f.choice f.heap)).modules
     turn (Some failure) = unchanged _ _ refl

@@ -70,22 +70,22 @@ module _ (old : Handles) (handle slot : ℕ) (o : Object) (n : C.IsNamed old han
 
 pub lock_law : LockLaw
 lock_law old new handle slot o answer n has loose few step =
-    let e : C.global_lock old handle ≡ (Dword (C.far_pointer (C.selector_of slot) 0), record old { heap = locked_heap old handle slot o n }) = locked old _ slot o n has loose few in (
-      ap (λ h. object_at h.heap slot) (step.1 ∙ ap (λ p. p.1) e) ∙ inserted_here old.heap.objects slot (record o { locks = o.locks + 1 }) slot refl,
+    let e : C.global_lock old handle ≡ (Dword (C.far_pointer (C.selector_of slot) 0), record old { heap = locked_heap old handle slot o n }) = locked old _ _ o n has loose few in (
+      ap (λ h. object_at h.heap slot) (step.1 ∙ ap (λ p. p.1) e) ∙ inserted_here _ slot (record o { locks = o.locks + 1 }) _ refl,
       step.0 ∙ ap (λ p. p.0) e,
     )
 
 pub unlock_law : UnlockLaw
 unlock_law old new handle slot o answer n loose step =
-    let e : C.global_unlock old handle ≡ (Word (cond (nat_lt 0 (o.locks - 1)) 1 0), record old { heap = C.with_object old.heap slot (record o { locks = o.locks - 1 }) }) = unlocked old _ slot o n loose in (
-      ap (λ h. object_at h.heap slot) (step.1 ∙ ap (λ p. p.1) e) ∙ inserted_here old.heap.objects slot (record o { locks = o.locks - 1 }) slot refl,
+    let e : C.global_unlock old handle ≡ (Word (cond (nat_lt 0 (o.locks - 1)) 1 0), record old { heap = C.with_object old.heap slot (record o { locks = o.locks - 1 }) }) = unlocked old _ _ o n loose in (
+      ap (λ h. object_at h.heap slot) (step.1 ∙ ap (λ p. p.1) e) ∙ inserted_here _ slot (record o { locks = o.locks - 1 }) _ refl,
       step.0 ∙ ap (λ p. p.0) e,
     )
 
 pub free_law : FreeLaw
 free_law old new handle slot o answer n own free step =
-    let e : C.global_free old handle ≡ (Word 0, record old { heap = C.removed old.heap slot; attributes = finmap.remove old.attributes slot }) = freed old _ slot o n own free in (
-      ap (λ h. object_at h.heap slot) (step.1 ∙ ap (λ p. p.1) e) ∙ taken_here old.heap.objects slot slot refl,
+    let e : C.global_free old handle ≡ (Word 0, record old { heap = C.removed old.heap slot; attributes = finmap.remove old.attributes slot }) = freed old _ _ o n own free in (
+      ap (λ h. object_at h.heap slot) (step.1 ∙ ap (λ p. p.1) e) ∙ taken_here _ slot _ refl,
       step.0 ∙ ap (λ p. p.0) e,
     )
 
@@ -95,11 +95,11 @@ modify_law old new handle slot size flags o answer is n own modify loose step =
     (λ b. MatchBool b (C.AnswersHandle old handle (C.modified old.heap slot (kind_modified flags)) answer new)
     (MatchBool (size == 0) (C.Empties old handle slot flags answer new) (C.Resizes old slot flags size answer new)))
     modify
-    (reallocs old _ slot o n new size flags _ own step) in
+    (reallocs old _ _ o n new size flags _ own step) in
     let law : ((is_fixed o.kind || is_fixed (kind_modified flags)) ≡ true → C.after_modify old.heap slot (kind_modified flags) ≡ Err refusals.Fixed)
     × ((is_fixed o.kind || is_fixed (kind_modified flags)) ≡ false → (heap : Heap) × (C.after_modify old.heap slot (kind_modified flags) ≡ Ok heap) × C.ChangesKind old.heap slot o (kind_modified flags) heap) =
     subst (λ p. C.IfSome p (λ o. ((is_fixed o.kind || is_fixed (kind_modified flags)) ≡ true → C.after_modify old.heap slot (kind_modified flags) ≡ Err refusals.Fixed)
-    × ((is_fixed o.kind || is_fixed (kind_modified flags)) ≡ false → (heap : Heap) × (C.after_modify old.heap slot (kind_modified flags) ≡ Ok heap) × C.ChangesKind old.heap slot o (kind_modified flags) heap))) n.there (kind_law _ slot _ is.heap) in
+    × ((is_fixed o.kind || is_fixed (kind_modified flags)) ≡ false → (heap : Heap) × (C.after_modify old.heap slot (kind_modified flags) ≡ Ok heap) × C.ChangesKind old.heap slot o (kind_modified flags) heap))) n.there (kind_law _ _ _ is.heap) in
     let c = law.1 (ap (λ b. b || is_fixed (kind_modified flags)) loose ∙ never_fixed flags) in (
       ap (λ h. object_at h.heap slot) again.1 ∙ ap (λ r. object_at (elim r as (λ _. Heap) [ Ok new ↦ new | Err _ ↦ old.heap ]) slot) c.1 ∙ c.2.object,
       again.0,
@@ -143,8 +143,8 @@ module _ (old : Handles) (selector offset n : ℕ) (p : C.Part) (bytes : C.List 
 
 pub answered_law : AnsweredLaw
 answered_law old new (C.Read pointer count) answer p bytes found has near fits may step fault e =
-    let both : ◌≡◌ {A = FarAnswer} (Fault fault) (C.Bytes (part (C.far_bytes old (C.selector_in pointer)) (far_at old (C.selector_in pointer) (C.offset_in pointer)) count)) = sym e ∙ step.0 ∙ read_answered old _ _ count p bytes found has near fits in cc
+    let both : ◌≡◌ {A = FarAnswer} (Fault fault) (C.Bytes (part (C.far_bytes old (C.selector_in pointer)) (far_at old (C.selector_in pointer) (C.offset_in pointer)) count)) = sym e ∙ step.0 ∙ read_answered old _ _ _ p _ found has near fits in cc
 answered_law old new (C.Write pointer slice) answer p bytes found has near fits may step fault e =
-    let both : ◌≡◌ {A = FarAnswer} (Fault fault) Done = sym e ∙ step.0 ∙ write_answered old _ _ _ p bytes found has near fits slice refl (may refl) in cc
+    let both : ◌≡◌ {A = FarAnswer} (Fault fault) Done = sym e ∙ step.0 ∙ write_answered old _ _ _ p _ found has near fits slice refl (may refl) in cc
 answered_law old new (C.Fill pointer count byte) answer p bytes found has near fits may step fault e =
-    let both : ◌≡◌ {A = FarAnswer} (Fault fault) Done = sym e ∙ step.0 ∙ write_answered old _ _ count p bytes found has near fits _ (length-repeated count byte) (may refl) in cc
+    let both : ◌≡◌ {A = FarAnswer} (Fault fault) Done = sym e ∙ step.0 ∙ write_answered old _ _ count p _ found has near fits _ (length-repeated _ _) (may refl) in cc

@@ -14,7 +14,7 @@ use Rattle.w16_model.specs.declared.Kind.TheVariants.{Fixed, Moveable, Discardab
 use Rattle.w16_model.specs.{declared.Block.Block, declared.Refusal.Refusal, declared.Kind.Kind, declared.RoomOptions.RoomOptions}
 
 pub contents_law : C.ContentsLaw
-contents_law old new call answer is m step = contents old new call answer (outcome old new call _ is step) m
+contents_law old new call answer is m step = contents old new _ answer (outcome old new _ _ is step) m
 
 -- The bytes moved to a heap, from which each object of old goes on to its next slot.
 module _ (old mid new : Heap) (is : C.IsHeap old) (next : ℕ → ℕ) (goes : (q : ℕ) → is_some (finmap.get old.places q) ≡ true → finmap.get new.places (next q) ≡ finmap.get mid.places q) where
@@ -153,12 +153,12 @@ module _ (old new : Handles) (is : C.AreHandles old) (call : C.Call) (answer : A
 
 pub moved_law : C.MovedLaw
 moved_law old new call answer is step =
-    let o = outcome old new call _ is step in
-    record { counted = λ c. by_slot o c (followed old new call _ is step); refused = refused old new is call _ o; other = other old new is call _ o }
+    let o = outcome old new _ _ is step in
+    record { counted = λ c. by_slot o c (followed old new _ _ is step); refused = refused old new is _ _ o; other = other old new is _ _ o }
   where
     by_slot : C.Outcome old call answer new → counts_moved call ≡ true → ((q : ℕ) → next_slot old call answer new q ≡ q) ⊎ C.Resized old call answer new → Sum old new is call answer
-    by_slot o c (inl stays) = counted old new is call _ stays o c
-    by_slot o c (inr r) = sized_again old new is call _ r
+    by_slot o c (inl stays) = counted old new is _ _ stays o c
+    by_slot o c (inr r) = sized_again old new is _ _ r
 
 oldest_rest : (id : ℕ) (l : List ℕ) → without id (C.oldest id l) ≡ without id l
 oldest_rest id l = ap (λ b. cond {A = List ℕ} (not b) (id ∷ without id (without id l)) (without id (without id l))) (C.eq-eqb id id refl) ∙ twice_out id l
@@ -234,12 +234,12 @@ module _ (old new : Handles) (is : C.AreHandles old) (call : C.Call) (answer : A
     others (C.IsResized r) = others_resized r
 
 pub unordered_law : C.UnorderedLaw
-unordered_law old new call answer is m step = unordered old new is call answer (outcome old new call _ is step) m
+unordered_law old new call answer is m step = unordered old new is _ answer (outcome old new _ _ is step) m
 
 pub others_order_law : C.OthersOrderLaw
-others_order_law old new call answer is step = elim (followed old new call _ is step) [
-  | inl same_slot ↦ others old new is call _ same_slot (outcome old new call _ is step)
-  | inr r ↦ others_resized old new is call _ r
+others_order_law old new call answer is step = elim (followed old new _ _ is step) [
+  | inl same_slot ↦ others old new is _ _ same_slot (outcome old new _ _ is step)
+  | inr r ↦ others_resized old new is _ _ r
 ]
 
 -- A new object.
@@ -325,7 +325,7 @@ module _ (old new : Handles) (is : C.AreHandles old) (handle slot : ℕ) (o : Ob
 
 pub use_law : C.UseLaw
 use_law old new handle slot o answer is found there listed = (
-  (λ few step. use_lock old new is _ slot o found there listed few step.1),
+  (λ few step. use_lock old new is _ _ o found there listed few step.1),
   (λ step. use_order old new is _ slot o found there listed newest step.1),
   (λ step. use_order old new is _ slot o found there listed C.oldest step.1),
 )

@@ -9,9 +9,9 @@ use Rattle.w16_loading.proofs.Common as C
 pub retained_swapped : {X : Type 0} (m : C.FinMap C.nat_cmp X) (a b : ℕ → Bool)
     → finmap.retain_keys (finmap.retain_keys m (λ q. not (a q))) (λ q. not (b q)) ≡ finmap.retain_keys (finmap.retain_keys m (λ q. not (b q))) (λ q. not (a q))
 retained_swapped m a b = same_values _ _ (λ q.
-    retained (finmap.retain_keys m (λ q. not (a q))) b q ∙ ap (λ p. cond (not (b q)) p None) (retained m a q)
+    retained (finmap.retain_keys m (λ q. not _)) b q ∙ ap (λ p. cond (not (b q)) p None) (retained m a q)
     ∙ swapped (a q) (b q) (finmap.get m q)
-    ∙ sym (retained (finmap.retain_keys m (λ q. not (b q))) a q ∙ ap (λ p. cond (not (a q)) p None) (retained m b q)))
+    ∙ sym (retained (finmap.retain_keys m (λ q. not _)) a q ∙ ap (λ p. cond (not (a q)) p None) (retained m b q)))
   where
     swapped : {X : Type 0} (s t : Bool) (p : C.Option X) → cond (not t) (cond (not s) p None) None ≡ cond (not s) (cond (not t) p None) None
     swapped true true p = refl
@@ -41,9 +41,9 @@ stays_idle world handle k m d h = record {
 }
   where
     before : (i : HasImporter (finmap.remove world.modules handle) k) → finmap.get world.modules i.who ≡ C.Some i.importer
-    before i = elim (C.cases_eq i.who _) [
-      | inl e ↦ absurd (none (sym (C.taken_here _ _ i.who e) ∙ i.there))
-      | inr f ↦ sym (taken_other _ _ i.who f) ∙ i.there
+    before i = elim (C.cases_eq _ _) [
+      | inl e ↦ absurd (none (sym (C.taken_here _ _ _ e) ∙ i.there))
+      | inr f ↦ sym (taken_other _ _ _ f) ∙ i.there
     ]
       where
         none : ◌≡◌ {A = C.Option C.Named} None (C.Some i.importer) → ⊥

@@ -113,4 +113,4 @@ module _ {honest : Type 0} (truly : honest) (format : C.Format) (before later : 
       follows go None (r, h, f) = subst (λ (x : Reading). Ends (follow here place name x)) (sym (reads closure.found (dll name) r h)) (ends go (follow here place name r) f)
 
 pub files_law : (honest : Type 0) → C.ClosureFilesLaw honest
-files_law honest format before later old count closure outcome truly f = let c = closes truly format before later old count _ _ f in (count, c.0, c.1)
+files_law honest format before later old count closure outcome truly f = let c = closes truly format before later old _ _ _ f in (count, c.0, c.1)

@@ -8,8 +8,8 @@ same_keeps old new slot e = subst (KeepsOthers old _ 0) (sym e) (record { kept =
 
 pub fetch_law : (honest : Type 0) → FetchLaw honest
 fetch_law honest format before after old new slot fault is f = elim (fetch_outcome f).1 [
-  | inl e ↦ record { number = 0; others = same_keeps _ _ slot (ap (λ w. w.handles.heap) e); rest = f.rest }
-  | inr (read, sized, given, filled) ↦ let k = filled_others _ slot read _ filled is in record { number = k.0; others = k.1; rest = f.rest }
+  | inl e ↦ record { number = 0; others = same_keeps _ _ _ (ap (λ w. w.handles.heap) e); rest = f.rest }
+  | inr (read, sized, given, filled) ↦ let k = filled_others _ _ read _ filled is in record { number = k.0; others = k.1; rest = f.rest }
 ]
 
 pub refused_law : (honest : Type 0) → FetchRefusedLaw honest

@@ -122,6 +122,6 @@ pub left_out_law : C.LeftOutLaw
 left_out_law lo hi xs order k h placed =
     let ids = C.take k _ in
     longest_without lo hi xs ids h
-    (λ x m t. elim (C.cases_Bool _) [ C.inl p ↦ absurd (eligible_loose xs order h x m (from_take k _ x.id (is_member-true x.id ids t)) p) | C.inr p ↦ p ])
+    (λ x m t. elim (C.cases_Bool _) [ C.inl p ↦ absurd (eligible_loose xs order h x m (from_take k _ _ (is_member-true _ ids t)) p) | C.inr p ↦ p ])
     _
     (room_is_longest lo hi _ (placed_filter lo hi (λ x. C.not _) xs placed))

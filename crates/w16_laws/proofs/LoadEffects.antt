@@ -68,7 +68,7 @@ fill_there f place (q ∷ qs) (g ∷ gs) (d ∷ ds) all zero slot s at there t =
     let its : q ≡ slot = cc in
     subst (λ b. (x : Filling) × Member x (cond {A = List _} b (record { place = place; slot = q; bytes = d.image (f d) } ∷ fills_from place qs gs ds (map f ds)) (fills_from place qs gs ds (map f ds))) × (x.slot ≡ slot))
     (sym (ap (λ z. is_fixed z.kind || z.is_preload) same ∙ t)) (record { place = place; slot = q; bytes = d.image (f d) }, inl refl, its)
-fill_there f place (q ∷ qs) (g ∷ gs) (d ∷ ds) all (C.suc i) slot s at there t = later _ (fill_there f place qs gs ds all.1 i slot s at there t)
+fill_there f place (q ∷ qs) (g ∷ gs) (d ∷ ds) all (C.suc i) slot s at there t = later _ (fill_there f _ qs gs ds all.1 i _ s at there t)
   where
     later : (b : Bool) → (x : Filling) × Member x (fills_from place qs gs ds (map f ds)) × (x.slot ≡ slot)
         → (x : Filling) × Member x (cond {A = List Filling} b (record { place = place; slot = q; bytes = d.image (f d) } ∷ fills_from place qs gs ds (map f ds)) (fills_from place qs gs ds (map f ds))) × (x.slot ≡ slot)

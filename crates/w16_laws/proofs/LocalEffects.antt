@@ -96,15 +96,15 @@ module _ (old new : World) (name : ℕ) (n : C.LocalObject) (named : C.object_na
 pub lock_law : LockLaw
 lock_law old new name n o (Word answer) is m has loose few step =
     let heap = heap_of n.heap in
-    let pointer = near_pointer heap n.id in
+    let pointer = near_pointer heap _ in
     let left = locked heap n.id o m.there in
-    let l = taken old new name n m.named (after_lock heap n.id) left (λ _. pointer) (C.lock_refused pointer) answer (lock_is heap n.id o m.there has loose few)
-    (on old new name n m.named 0 answer (λ o. Leaves old o.heap (after_lock (heap_of o.heap) o.id) (λ _. near_pointer (heap_of o.heap) o.id) (C.lock_refused (near_pointer (heap_of o.heap) o.id)) answer new) step) in
+    let l = taken old new name n m.named _ left (λ _. pointer) _ answer (lock_is heap _ o m.there has loose few)
+    (on old new name n m.named 0 answer (λ o. Leaves old o.heap _ (λ _. near_pointer (heap_of o.heap) o.id) _ answer new) step) in
     let is_heap = M.heap_here old is n.heap (here old new name n m.named) in
     record {
-      counted = became old new name n m.named left (λ next. object_at next n.id ≡ Some (record o { locks = o.locks + 1 })) (C.inserted_here heap.objects n.id (record o { locks = o.locks + 1 }) n.id refl) l.1;
-      newest = λ may. became old new name n m.named left (λ next. next.order ≡ newest n.id heap.order) (touched_newest heap n.id o m.there is_heap has may) l.1;
-      answered = (pointer, placed heap n.id o m.there is_heap has, ap Word l.0);
+      counted = became old new name n m.named _ (λ next. object_at next n.id ≡ Some (record o { locks = o.locks + 1 })) (C.inserted_here _ n.id (record o { locks = o.locks + 1 }) _ refl) l.1;
+      newest = λ may. became old new name n m.named _ (λ next. next.order ≡ newest n.id heap.order) (touched_newest heap n.id o m.there is_heap has may) l.1;
+      answered = (pointer, placed heap _ o m.there is_heap has, ap Word l.0);
     }
 lock_law old new name n o reply is m has loose few step = absurd step
 
@@ -113,9 +113,9 @@ unlock_law old new name n o (Word answer) m loose step =
     let heap = heap_of n.heap in
     let less : Object = record o { locks = o.locks - 1 } in
     let left = C.with_object heap n.id less in
-    let here = C.inserted_here heap.objects n.id less n.id refl in
-    let l = taken old new name n m.named (C.after_unlock heap n.id) left (C.locks_left n.id) (λ _. 0) answer (unlock_is heap n.id o m.there loose)
-    (on old new name n m.named 0 answer (λ o. Leaves old o.heap (C.after_unlock (heap_of o.heap) o.id) (C.locks_left o.id) (λ _. 0) answer new) step) in (
+    let here = C.inserted_here _ n.id less n.id refl in
+    let l = taken old new name n m.named _ left _ (λ _. 0) answer (unlock_is _ _ o m.there loose)
+    (on old new name n m.named 0 answer (λ o. Leaves old o.heap _ _ (λ _. 0) answer new) step) in (
       became old new name n m.named left (λ next. object_at next n.id ≡ Some less) here l.1,
       ap Word (l.0 ∙ ap (λ p. cond (nat_lt 0 (C.unwrap_or (C.option_map (λ o. o.locks) p) 0)) 1 0) here),
     )
@@ -124,9 +124,9 @@ unlock_law old new name n o reply m loose step = absurd step
 pub free_law : FreeLaw
 free_law old new name n o (Word answer) m free step =
     let heap = heap_of n.heap in
-    let g : (answer ≡ 0) × Acts old n.heap (λ next. next ≡ removed heap n.id) new = given old new name n m.named (after_free heap n.id) (removed heap n.id) 0 name answer (free_is heap n.id o m.there free)
-    (on old new name n m.named name answer (λ o. GivesUp old o.heap (after_free (heap_of o.heap) o.id) 0 name answer new) step) in
-    (acted old new name n m.named (removed heap n.id) (λ next. object_at next n.id ≡ None) (C.taken_here heap.objects n.id n.id refl) g.1, ap Word g.0)
+    let g : (answer ≡ 0) × Acts old n.heap (λ next. next ≡ removed heap n.id) new = given old new name n m.named _ _ 0 name _ (free_is _ _ o m.there free)
+    (on old new name n m.named name answer (λ o. GivesUp old o.heap _ 0 name answer new) step) in
+    (acted old new name n m.named _ (λ next. object_at next n.id ≡ None) (C.taken_here _ _ _ refl) g.1, ap Word g.0)
 free_law old new name n o reply m free step = absurd step
 
 -- LocalReAlloc
@@ -138,9 +138,9 @@ modify_law old new name size flags n o (Word answer) m modify loose step =
     let heap = heap_of n.heap in
     let kind = C.moveable_or_discardable flags in
     let left = modified heap n.id o m.there kind in
-    let l = taken old new name n m.named (C.after_modify heap n.id kind) left (λ _. name) (λ _. name) answer (modify_is heap n.id o m.there kind loose (not_fixed flags))
-    (subst (λ b. MatchBool b (C.ModifiesObject old name flags answer new n) (MatchBool (size == 0) (C.DiscardsObject old name flags answer new n) (C.SizesObject old size flags answer new n))) modify (on old new name n m.named 0 answer (Reallocs old name size flags answer new) step)) in
-    (became old new name n m.named left (λ next. object_at next n.id ≡ Some (record o { kind = kind })) (C.inserted_here heap.objects n.id (record o { kind = kind }) n.id refl) l.1, ap Word l.0)
+    let l = taken old new name n m.named (C.after_modify _ _ _) left (λ _. name) (λ _. name) answer (modify_is _ _ o m.there _ loose (not_fixed _))
+    (subst (λ b. MatchBool b (C.ModifiesObject old name flags answer new n) (MatchBool (size == 0) (C.DiscardsObject old name flags answer new n) (C.SizesObject old size flags answer new n))) modify (on old new name n m.named 0 answer _ step)) in
+    (became old new name n m.named _ (λ next. object_at next n.id ≡ Some (record o { kind = kind })) (C.inserted_here _ n.id (record o { kind = kind }) _ refl) l.1, ap Word l.0)
 modify_law old new name size flags n o reply m modify loose step = absurd step
 
 -- a size of 0
@@ -149,10 +149,10 @@ discards : (old new : World) (name flags : ℕ) (n : C.LocalObject) (o : Object)
 discards old new name flags n o answer m keeps moveable may free step =
     let heap = heap_of n.heap in
     let bare : Object → Object = (λ o. record o { bytes = None }) in
-    let asked = subst (λ b. MatchBool b (C.ModifiesObject old name flags answer new n) (C.DiscardsObject old name flags answer new n)) keeps (on old new name n m.named 0 answer (Reallocs old name 0 flags answer new) step) in
-    let g : (answer ≡ name) × Acts old n.heap (λ next. next ≡ absent heap n.id) new = given old new name n m.named (C.after_discard heap n.id) (absent heap n.id) name 0 answer (discarded_is heap n.id o m.there may free)
+    let asked = subst (λ b. MatchBool b (C.ModifiesObject old name flags answer new n) (C.DiscardsObject old name flags answer new n)) keeps (on old new name n m.named 0 answer _ step) in
+    let g : (answer ≡ name) × Acts old n.heap (λ next. next ≡ absent heap n.id) new = given old new name n m.named (C.after_discard _ _) _ _ 0 _ (discarded_is _ _ o m.there may free)
     (subst (λ b. MatchBool b (GivesUp old n.heap (C.after_discard heap n.id) name 0 answer new) (C.Stays old 0 answer new)) moveable asked) in
-    (acted old new name n m.named (absent heap n.id) (λ next. object_at next n.id ≡ Some (bare o)) (C.get-update_same heap.objects n.id bare ∙ ap (C.option_map bare) m.there) g.1, g.0)
+    (acted old new name n m.named _ (λ next. object_at next n.id ≡ Some (bare o)) (C.get-update_same _ _ _ ∙ ap (C.option_map _) m.there) g.1, g.0)
 
 pub discard_law : DiscardLaw
 discard_law old new name command n o reply m (C.inl e) may free step = turn reply (subst (λ c. C.LocalStep old c reply new) e step)
@@ -260,5 +260,5 @@ module _ (old new : World) (name : ℕ) (n : C.LocalObject) (o : Object) (m : Is
 
 pub refused_law : RefusedLaw
 refused_law old new (C.DS selector) C.Done name n o asked m r step = absurd (false≢true r)
-refused_law old new command (Word answer) name n o asked m r step = refused old new name n o m answer command asked r step
+refused_law old new command (Word answer) name n o asked m r step = refused old new _ n o m answer command asked r step
 refused_law old new command reply name n o asked m r step = absurd step

@@ -49,17 +49,17 @@ module _ (old new : World) (slot : ℕ) (none : finmap.get old.heaps slot ≡ No
       ])
 
 pub never_back_law : (honest : Type 0) → C.NeverBackLaw honest
-never_back_law honest format old new (C.OfLoading command) reply step slot none = inl (ap (λ w. finmap.get w.heaps slot) step.1 ∙ left_is new.loading.handles.heap old.heaps slot ∙ ap (λ p. left_over p (C.bytes_at new.loading.handles.heap slot)) none)
+never_back_law honest format old new (C.OfLoading command) reply step slot none = inl (ap (λ w. finmap.get w.heaps slot) step.1 ∙ left_is new.loading.handles.heap _ slot ∙ ap (λ p. left_over p (C.bytes_at new.loading.handles.heap slot)) none)
 never_back_law honest format old new (OfLocals (C.DS selector)) C.Done step slot none = inl (ap (λ w. finmap.get w.heaps slot) step ∙ none)
-never_back_law honest format old new (OfLocals command) (Word answer) step slot none = called old new slot none command answer (outcome old command answer new step)
+never_back_law honest format old new (OfLocals command) (Word answer) step slot none = called old new _ none _ _ (outcome old _ _ new step)
 never_back_law honest format old new (OfLocals command) reply step slot none = absurd step
 
 pub gone_law : (honest : Type 0) → C.GoneLaw honest
-gone_law honest format old new events run none_begins slot none = each old events (C.Each-from_All C.BeginsNone events none_begins) run none
+gone_law honest format old new events run none_begins slot none = each old events (C.Each-from_All _ events none_begins) run none
   where
     each : (now : World) (events : C.List C.Event) → Each C.BeginsNone events → C.Run (C.Step honest format) now events new → finmap.get now.heaps slot ≡ None → finmap.get new.heaps slot ≡ None
     each now [] begins run none = ap (λ w. finmap.get w.heaps slot) run ∙ none
-    each now (event ∷ events) begins run none = elim (never_back_law honest format now event.after event.command event.reply run.0 slot none) [
-      | inl still ↦ each event.after events begins.1 run.1 still
-      | inr begun ↦ absurd (begins.0 begun.selector begun.start begun.end begun.asked begun.answered)
+    each now (event ∷ events) begins run none = elim (never_back_law honest format now _ _ _ run.0 slot none) [
+      | inl still ↦ each _ events begins.1 run.1 still
+      | inr begun ↦ absurd (begins.0 _ _ _ begun.asked begun.answered)
     ]

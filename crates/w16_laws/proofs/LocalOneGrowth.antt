@@ -3,7 +3,7 @@ use Rattle.w16_machine.proofs.Common.{◌≡◌, ◌≢◌, ℕ, ◌<◌, inl, i
 use Rattle.w16_machine.proofs.{LocalGrown.plain_flags, LocalLengthened.resizes}
 use Rattle.w16_model.specs.declared.Kind.TheVariants.{Fixed, Moveable, Discardable}
 use Rattle.w16_model.specs.Resizes.{Anew, GetsRun, GlobalReAllocs, IsNull, LacksRun, ReAllocsOwn, ResizesObject, realloc_options}
-use Rattle.w16_model.specs.{declared.TheConstants.LARGEST_SIZE, declared.TheConstants.GMEM_MODIFY, declared.Kind.Kind, Calls.rounded_size, Handles.handle_of, Handles.slot_of_handle, Handles.slots_for, Owned.owns, Heap.Heap, Request.Reallocates}
+use Rattle.w16_model.specs.{declared.TheConstants.LARGEST_SIZE, declared.TheConstants.GMEM_MODIFY, declared.Kind.Kind, Calls.rounded_size, Handles.handle_of, Handles.slot_of_handle, Handles.slots_for, Heap.Heap, Request.Reallocates}
 use Rattle.w16_model.proofs.Growth.{one_outcome_law}
 
 some_handle : (kind : Kind) (slot : ℕ) → 0 ≢ handle_of kind slot
@@ -44,7 +44,7 @@ module _ (old : Handles) (handle slot size flags : ℕ) (found : slot_of_handle 
 
 pub one_answer : (old : Handles) (handle slot size flags : ℕ) → slot_of_handle old handle ≡ Some slot → has_flag flags GMEM_MODIFY ≡ false → 0 < size → (answer : ℕ) → answer ≢ 0 → (new null : Handles)
     → GlobalReAllocs old handle size flags answer new → GlobalReAllocs old handle size flags 0 null → ⊥
-one_answer old handle slot size flags found keeps some answer answers new null g h = by_owner old handle slot size flags found keeps some answer answers new null (owns old handle) g h
+one_answer old handle slot size flags found keeps some answer answers new null g h = by_owner old _ slot size flags found keeps some _ answers new _ _ g h
 
 pub one_growth_law : OneGrowthLaw
 one_growth_law old at id n size other options g h = (same, (λ l short. never l (short l.handle l.named)))

@@ -37,4 +37,4 @@ outcome_law old new at flags size id answer is free made (inl (inl fixed)) = not
     nothing n e lt = omega (arith, e, lt)
 outcome_law old new at flags size id answer is free made (inl (inr full)) = full id free.free
 outcome_law old new at flags size id answer is free made (inr room) =
-    roomed old new at flags size id answer is free (with_bytes old new at flags size id answer (C.is_absent_asked flags size) (ap (λ b. b && C.has_flag flags LMEM_MOVEABLE) (C.ne_eqb size 0 (λ e. absurd (omega (arith, e, room.0))))) made) room.1
+    roomed old new at flags size id answer is free (with_bytes old new at _ _ id _ _ (ap (λ b. b && C.has_flag flags LMEM_MOVEABLE) (C.ne_eqb size 0 (λ e. absurd (omega (arith, e, room.0))))) made) room.1

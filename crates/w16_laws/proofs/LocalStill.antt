@@ -13,7 +13,7 @@ told : (old new : World) (command : C.LocalCommand) (answer : ℕ) → C.only_te
 told old new (C.LocalSize name) answer tells step = step.1
 told old new (C.LocalFlags name) answer tells step = step.1
 told old new (C.LocalHandle pointer) answer tells step = step.1
-told old new (C.LocalCompact size) answer tells step = in_heap (C.current_heap old) step
+told old new (C.LocalCompact size) answer tells step = in_heap _ step
   where
     for_none : (at : C.LocalHeap) (b : Bool) → b ≡ true → C.MatchBool b (Stays old (C.most_room (heap_of at)) answer new) (Acts old at (C.MakesRoom (heap_of at) size answer) new) → new ≡ old
     for_none at true e s = s.1
@@ -21,7 +21,7 @@ told old new (C.LocalCompact size) answer tells step = in_heap (C.current_heap o
 
     in_heap : (p : Option C.LocalHeap) → C.MatchOption p (Stays old 0 answer new) (C.CompactsIn old size answer new) → new ≡ old
     in_heap None s = s.1
-    in_heap (Some at) s = for_none at (size == 0) tells s
+    in_heap (Some at) s = for_none at _ tells s
 told old new other answer tells step = absurd (false≢true tells)
 
 pub queries_law : C.QueriesLaw
@@ -72,4 +72,4 @@ module _ (heap : Heap) (q pointer : ℕ) where
 pub places_law : C.PlacesLaw
 places_law old new command reply at after q pointer step c e none =
     let heap = heap_of at in
-    current_becomes old at c command reply new (Stood heap q pointer) (same_places heap q pointer heap refl) (stepped heap q pointer command none) (roomed heap q pointer command none) (λ answer after e g. absurd (false≢true (sym none ∙ grow_asks command g.may))) after e step
+    current_becomes old at c command reply new (Stood heap q _) (same_places heap q _ heap refl) (stepped _ q _ _ none) (roomed _ q _ _ none) (λ answer after e g. absurd (false≢true (sym none ∙ grow_asks command g.may))) _ e step

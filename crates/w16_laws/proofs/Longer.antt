@@ -19,7 +19,7 @@ first_shorter hi end (x ∷ xs) a h =
 none_above : (hi b : ℕ) (xs : List Block) → Each (λ x. x.at < hi) xs → loose_bytes xs hi b ≡ 0
 none_above hi b [] h = refl
 none_above hi b (x ∷ xs) h =
-    let out = C.and_right (is_loose x) (begins_in hi b x) (C.and_left (C.nat_le hi x.at) (C.nat_lt x.at b) (C.lt-leb hi x.at h.0)) in
+    let out = C.and_right (is_loose x) (begins_in hi b x) (C.and_left (C.nat_le hi _) (C.nat_lt _ b) (C.lt-leb hi _ h.0)) in
     sum_filter (λ y. is_loose y && begins_in hi b y) x xs ∙ ap (λ v. cond v x.size 0 + loose_bytes xs hi b) out ∙ C.zero-add _ ∙ none_above hi b xs h.1
 
 from_longer : (hi end : ℕ) (xs : List Block) → hi ≤ end → Each (λ x. x.at < hi) xs → (a : ℕ) → room_from hi xs a ≤ room_from end xs a

@@ -79,14 +79,14 @@ extended_law old new handle size flags answer slot is step found can some = elim
   | inl e ↦ e
   | inr r ↦ elim (C.cases_eq _ _) [
     | inl e ↦ e
-    | inr d ↦ absurd (leaves old new _ size flags _ slot is found r d (extended old new _ size flags _ slot is found r can))
+    | inr d ↦ absurd (leaves old new _ _ _ _ slot is found r d (extended old new _ _ _ _ _ is found r can))
   ]
 ]
 
 pub shared_law : SharedLaw
 shared_law old new handle size flags answer slot is step found some d = elim (answered old new _ size flags _ is step some) [
   | inl e ↦ absurd (d e)
-  | inr r ↦ shared old new _ size flags _ slot is found r
+  | inr r ↦ shared old new _ _ _ _ _ is found r
 ]
 
 pub place_law : PlaceLaw
@@ -95,6 +95,6 @@ place_law old new handle size flags answer slot is step found some d listed = el
   | inr r ↦ (
     gone_for old new is _ _ r,
     gone_bare old new is _ _ r,
-    placed old new _ size flags _ slot is found r (leaves old new _ size flags _ slot is found r d) listed,
+    placed old new _ _ _ _ _ is found r (leaves old new _ _ _ _ slot is found r d) listed,
   )
 ]

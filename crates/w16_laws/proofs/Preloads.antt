@@ -11,7 +11,7 @@ use Rattle.w16_model.proofs.{Common.hold_of_object, Heaps.member_block}
 
 any_member : {X : Type 0} (p : X → Bool) (xs : List X) → list_any p xs ≡ true → (x : X) × Member x xs × (p x ≡ true)
 any_member p [] t = absurd (false≢true t)
-any_member p (y ∷ ys) t = turn (p y) refl t (λ more. any_member p ys more)
+any_member p (y ∷ ys) t = turn _ refl t (λ more. any_member p ys more)
   where
     turn : (b : Bool) → p y ≡ b → (b || list_any p ys) ≡ true → (list_any p ys ≡ true → (x : _) × Member x ys × (p x ≡ true)) → (x : _) × Member x (y ∷ ys) × (p x ≡ true)
     turn true e t rest = (y, inl refl, e)

@@ -63,7 +63,7 @@ module _ (old : LoadingWorld) (is : C.IsLoadingWorld old) where
 
 pub refused_load_law : (honest : Type 0) → C.RefusedLoadLaw honest
 refused_load_law honest format before after b old new file answer is =
-    let answers = C.told honest format old.files before after in
+    let answers = C.told honest format _ before after in
     loaded_by answers old (Refused old is) (same old is) b file _ new (used old is) (λ closure facts. fulfilled answers old is _ _ new)
 
 -- Early refusals.
@@ -109,10 +109,10 @@ module _ (old : LoadingWorld) where
 
 pub early_refusal_law : (honest : Type 0) → C.EarlyRefusalLaw honest
 early_refusal_law honest format before after b old new file number truly is f some few =
-    let answers = C.told _ format _ _ after in
+    let answers = C.told _ format _ _ _ in
     loaded_by answers old (Early old) (λ answer n e x y. refl) b file (Says _) new
     (λ handle m e less n same x y. absurd (not_refused old is _ _ e (small _ n same y)))
-    (λ closure facts. fulfilled_late old answers (λ fails. let e = fails.2 truly in cc) closure (Says _) new) f number refl some few
+    (λ closure facts. fulfilled_late old answers (λ fails. let e = fails.2 truly in cc) closure _ new) f number refl some few
   where
     small : (handle n : ℕ) → Says handle ≡ Says n → n < FIRST_MODULE → handle < FIRST_MODULE
     small handle n e lt = let same : handle ≡ n = cc in omega (arith, same, lt)

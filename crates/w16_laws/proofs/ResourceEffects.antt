@@ -160,7 +160,7 @@ module _ (answers : C.Answers) (old : LoadingWorld) (is : C.IsLoadingWorld old) 
   ]
 
 pub load_resource_law : (honest : Type 0) → M.LoadResourceLaw honest
-load_resource_law honest format old new handle place answer is step = loads (C.told _ format _ old.failures new.failures) old is _ place _ (record new { failures = old.failures }) step.step
+load_resource_law honest format old new handle place answer is step = loads (C.told _ format _ _ _) old is _ _ _ (record new { failures = old.failures }) step.step
 
 -- Locks.
 

@@ -42,7 +42,7 @@ told value answer old new gives = let e = gives.0 in cc
 
 pub selectors_law : SelectorsLaw
 selectors_law old new slot k answer o is there below = (
-  λ step. told _ _ old new step ∙ handle old is slot k below o there,
+  λ step. told _ _ old new step ∙ handle old is _ k below o there,
   λ at stands step. told _ _ old new step ∙ base old is slot k below o there at stands,
   λ bytes has step. told _ _ old new step ∙ limit old is slot k below o there ∙ ap (λ p. unwrap_or (option_map (λ bytes. min 65536 (length {A = ℕ} bytes - 65536 * k) - 1) p) 0) has,
   λ none step. told _ _ old new step ∙ limit old is slot k below o there ∙ ap (λ p. unwrap_or (option_map (λ bytes. min 65536 (length {A = ℕ} bytes - 65536 * k) - 1) p) 0) none,

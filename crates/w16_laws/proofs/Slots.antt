@@ -85,7 +85,7 @@ counted (f ∷ fs) (s ∷ ss) h =
 
 first_each : (P : ℕ → Type 0) (s more : List ℕ) → Each P (s ++ more) → Each P s
 first_each P [] more h = tt
-first_each P (x ∷ s) more h = (h.0, first_each P s more h.1)
+first_each P (x ∷ s) more h = (h.0, first_each P s _ h.1)
 
 pub slots_law : C.SlotsLaw
 slots_law world found = (λ le. chosen le, λ s. enough s.0 s.1)

@@ -11,16 +11,16 @@ same_values m n same = C.same_map C.nat_cmp_total C.nat_cmp-IsAntisymmetric m n 
 
 -- where nothing goes all stay
 pub all_retained : {X : Type 0} (m : FinMap nat_cmp X) (gone : ℕ → Bool) → ((q : ℕ) → gone q ≡ false) → finmap.retain_keys m (λ q. not (gone q)) ≡ m
-all_retained m gone out = same_values (finmap.retain_keys m (λ q. not _)) m (λ q. retained m gone q ∙ ap (λ b. cond (not b) (finmap.get m q) None) (out q))
+all_retained m gone out = same_values (finmap.retain_keys m (λ q. not _)) m (λ q. retained m _ q ∙ ap (λ b. cond (not b) (finmap.get m q) None) (out q))
 
 pub none_gone : (gone : ℕ → Bool) (world : C.LoadingWorld) → ((q : ℕ) → gone q ≡ false) → C.without_objects gone world ≡ world
 none_gone gone world out = λ i. record world {
   handles = record world.handles {
     heap = record world.handles.heap {
-      objects = all_retained world.handles.heap.objects gone out i;
-      places = all_retained world.handles.heap.places gone out i;
-      order = kept_all gone world.handles.heap.order (λ q m. out q) i;
+      objects = all_retained world.handles.heap.objects _ out i;
+      places = all_retained world.handles.heap.places _ out i;
+      order = kept_all _ world.handles.heap.order (λ q m. out q) i;
     };
-    attributes = all_retained world.handles.attributes gone out i;
+    attributes = all_retained world.handles.attributes _ out i;
   };
 }

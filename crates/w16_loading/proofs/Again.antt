@@ -13,10 +13,10 @@ same_module modules a b m n e x y = let f : ◌≡◌ {A = C.Option Module} (Som
 pub segment_image : (format : C.Format) (world : C.LoadingWorld) (slot handle number : ℕ) (m : Module) (bytes : List ℕ) → C.IsLoadingWorld world → C.IsSegmentOf world slot handle number m → C.IsImage format world slot bytes
     → segment_bytes format world m number ≡ Some bytes
 segment_image format world slot handle number m bytes is s (inl i) =
-    let one = is.one_segment slot _ _ i.0 i.1 m i.2 s i.3 in
+    let one = is.one_segment _ _ _ i.0 i.1 m i.2 s i.3 in
     let same = same_module world.modules _ i.0 m i.2 one.0 s.loaded i.3.loaded in
     ap (segment_bytes format world m) one.1 ∙ ap (λ n. segment_bytes format world n i.1) (sym same) ∙ i.4
-segment_image format world slot handle number m bytes is s (inr i) = absurd (is.no_resource slot _ _ i.0 i.1 m i.2 s i.3)
+segment_image format world slot handle number m bytes is s (inr i) = absurd (is.no_resource _ _ _ i.0 i.1 m i.2 s i.3)
 
 pub fetch_again_law : (honest : Type 0) → C.FetchAgainLaw honest
 fetch_again_law honest format from to before absent after slot handle number m bytes truly is code segment coded has modules files f =

@@ -52,7 +52,7 @@ fulfils_as f g Is turns old closure answer new h is = record {
   is_choice = h.is_choice;
   failure = h.failure;
   heap = h.heap;
-  filled = in_turn_so f g Is turns (named old closure h.choice).handles.heap h.heap (fills old closure h.choice) h.failure is h.filled;
+  filled = in_turn_so f g Is turns (named old closure h.choice).handles.heap h.heap (fills old closure _) h.failure is h.filled;
   answered = h.answered;
   after = h.after;
 }
@@ -75,12 +75,12 @@ is_small refusals.LoadedTwice = refl
 is_small refusals.BadReference = refl
 
 pub small_number : (refusal : LoadRefusal) → refusal_number refusal < FIRST_MODULE
-small_number refusal = C.ltb-true (refusal_number refusal) FIRST_MODULE (is_small refusal)
+small_number refusal = C.ltb-true _ _ (is_small _)
 
 small_refusal : (place : ℕ) (fault : FetchFault) → IsRefusal (C.refusal_of place fault)
 small_refusal place faults.Store = tt
 small_refusal place faults.NoRoom = small_number refusals.NoRoom
-small_refusal place faults.Damaged = small_number (cond (place == 0) refusals.BadFile refusals.BadReference)
+small_refusal place faults.Damaged = small_number _
 
 -- A load is refused in the same world; or of a module that is there; or of new modules, as they were told.
 abbrev pub LoadsOf : Answers → C.Loading

@@ -19,7 +19,7 @@ no_module q = ap module_in (none q)
 
 pub empty_law : EmptyLaw
 empty_law memory slots files failures few = record {
-  handles = handles.empty_law _ slots few;
+  handles = handles.empty_law _ _ few;
   numbers = λ q. if_none _ _ (none q);
   names = λ a b m n x y same. absurd (not_some a m x);
   modules = λ q. if_none _ _ (no_module q);

@@ -13,7 +13,7 @@ use Rattle.w16_model.proofs.Bystanders as calls_proofs
 
 -- a resize is the call that it stands for
 resize_call : (old : Handles) (command : C.ResizeCommand) (reply : Reply) (next : Handles) → C.ResizeReplies old command reply next → (answer : calls.Answer) × CallStep old (call_of command) answer next
-resize_call old command reply next step = let s : (answer : calls.Answer) × ResizeStep old command answer next = some_of (λ answer. ResizeStep old _ _ next) _ step in by command s.0 s.1
+resize_call old command reply next step = let s : (answer : calls.Answer) × ResizeStep old command answer next = some_of (λ answer. ResizeStep old _ _ _) _ step in by command s.0 s.1
   where
     by : (command : C.ResizeCommand) (answer : calls.Answer) → ResizeStep old command answer next → (answer : calls.Answer) × CallStep old (call_of command) answer next
     by (GlobalReAlloc handle size flags) (calls.Answer.Word answer) step = (calls.Answer.Word _, step)
@@ -96,14 +96,14 @@ may_go old new failures q command g = absurd g
 
 pub bystanders_law : (honest : Type 0) → C.StepBystandersLaw honest
 bystanders_law honest format old new command reply q is step there out =
-    elim (family_spares (told _ format _ old.failures new.failures) old is q there (record new { failures = old.failures }) reply command step.step out) [
+    elim (family_spares (told _ format _ _ _) old is q there (record new { failures = old.failures }) reply command step.step out) [
       | inl s ↦ inl s.0
       | inr r ↦ inr (r.0, may_go old new _ q _ r.1)
     ]
 
 pub pinned_law : (honest : Type 0) → C.StepPinnedLaw honest
 pinned_law honest format old new command reply q is step pinned out =
-    elim (family_stands (told _ format _ old.failures new.failures) old is q (some _ pinned) (record new { failures = old.failures }) reply pinned command step.step out) [
+    elim (family_stands (told _ format _ _ _) old is q (some _ pinned) (record new { failures = old.failures }) reply pinned command step.step out) [
       | inl s ↦ inl s
       | inr r ↦ inr (r.0, may_go old new _ q _ r.1)
     ]

@@ -44,10 +44,10 @@ module _ (honest : Type 0) (truly : honest) (format : C.Format) (old : LoadingWo
 
 -- the count of failures says nothing of code
 counted : (format : C.Format) (world : LoadingWorld) (failures : ℕ) → IsOfFiles format (record world { failures = failures }) → IsOfFiles format world
-counted format world failures good = record { code = λ slot handle number m s coded. good.code slot _ _ m (record { loaded = s.loaded; has = s.has }) coded; modules = good.modules }
+counted format world failures good = record { code = λ slot handle number m s coded. good.code _ _ _ m (record { loaded = s.loaded; has = s.has }) coded; modules = good.modules }
 
 pub code_law : (honest : Type 0) → C.CodeLaw honest
 code_law honest format old new command reply truly is good step =
     let answers = told honest format old.files old.failures new.failures in
-    counted _ new old.failures (family (FetchesFrom Fills _) (LoadsFrom Fills answers) (λ slice. Unit {0}) old (IsOfFiles _)
+    counted _ new old.failures (family (FetchesFrom _ _) (LoadsFrom Fills answers) (λ slice. Unit {0}) old (IsOfFiles _)
     (parts _ truly _ old is good _ _) (record new { failures = old.failures }) reply command (nothing_asked _) step.step)

@@ -31,7 +31,7 @@ still_absent w (x ∷ xs) q e = still_absent (with_segment w x) xs q (elim (case
 pub sound_values : (value : Target → Far) (ss : List SegmentData) → list_all (λ s. is_some s.targets) ss ≡ true
     → AllZip (λ s values. IsSomeAnd s.targets (λ targets. length values ≡ length targets)) ss (map (λ s. map value (targets_of s)) ss)
 sound_values value [] e = tt
-sound_values value (s ∷ ss) e = turn _ refl e (λ f. sound_values value ss f)
+sound_values value (s ∷ ss) e = turn _ refl e (λ f. sound_values _ ss f)
   where
     turn : (p : Option (List Target)) → s.targets ≡ p → (is_some p && list_all (λ s. is_some s.targets) ss) ≡ true
         → (list_all (λ s. is_some s.targets) ss ≡ true → AllZip (λ s values. IsSomeAnd s.targets (λ targets. length values ≡ length targets)) ss (map (λ s. map value (targets_of s)) ss))

@@ -37,7 +37,7 @@ part_in p = C.unwrap_or p (record { slot = 0; number = 0 })
 -- a read that is answered, in a world where code is its file's
 read_bytes : (format : C.Format) (world : LoadingWorld) (selector offset n slot handle number : ℕ) (m : C.Module) (bytes : List ℕ) → C.CodeIsItsFiles format world → C.IsSegmentOf world slot handle number m → C.is_code world slot ≡ true
     → part_of_selector world.handles selector ≡ Some (record { slot = slot; number = 0 }) → (replies.Reply.Bytes bytes) ≡ (C.reply_of_far (far_read selector offset n world).0) → IsSomeAnd (segment_bytes format world m number) (λ image. bytes ≡ part image offset n)
-read_bytes format world selector offset n slot handle number m bytes code segment coded named answered = turn (C.far_fault world.handles selector offset n) refl answered
+read_bytes format world selector offset n slot handle number m bytes code segment coded named answered = turn (C.far_fault world.handles _ offset n) refl answered
   where
     turn : (p : Option C.FarFault) → C.far_fault world.handles selector offset n ≡ p → (replies.Reply.Bytes bytes) ≡ (C.reply_of_far (ReadsOf world.handles selector offset n p).0) → IsSomeAnd (segment_bytes format world m number) (λ image. bytes ≡ part image offset n)
     turn (Some fault) e f = cc

@@ -1,5 +1,5 @@
 -- The names of definitions and of lower crates that the proofs of this crate cite, passed on from one place. Declares nothing.
-pub use Rattle.std.proofs.Common.{Err, MatchResult, None, Ok, Option, Result, Some, codes, count_by, flat_map, length-append, position, slice_index, slice_index_or, zip, ◌%◌}
+pub use Rattle.std.proofs.Common.{Err, MatchResult, None, Ok, Option, Some, codes, count_by, flat_map, length-append, position, slice_index, slice_index_or, zip, ◌%◌}
 pub use Rattle.std.proofs.lemmas.List.{append-nil, append_assoc, drop_all, length-drop, length-map, take-append-drop}
 pub use Rattle.std.proofs.lemmas.List.Quantifiers.{position-Some}
 pub use Rattle.std.proofs.lemmas.List.Sums.{length-filter}
@@ -37,7 +37,7 @@ pub use Rattle.w16_loading.specs.Modules.Named.{BuiltIn, Loaded}
 pub use Rattle.w16_loading.specs.Naming.{AreSlots, Choice, Given, IsChoice, all_slots, attributes_of, bound, bound_in, fills, fills_from, fills_of, free_slots, given, given_from, handle_meant, imports_at, named, segments_in, segments_of, unbound, with_modules, with_segment}
 pub use Rattle.w16_loading.specs.Owner.{IsOwnerOf, Owner, OwnerLaw, number_in, owner_of, segment_among}
 pub use Rattle.w16_loading.specs.Owner.Owner.{OfResource, OfSegment, Script}
-pub use Rattle.w16_loading.specs.Refusals.{OrRefused, by_reference, is_of_format, refusal_number}
+pub use Rattle.w16_loading.specs.Refusals.{OrRefused, by_reference, refusal_number}
 pub use Rattle.w16_loading.specs.Release.{heap_without, without_objects}
 pub use Rattle.w16_loading.specs.Replies.{HandleReplies, Reply, ResizeReplies, answer_in}
 pub use Rattle.w16_loading.specs.Replies.Reply.{Dword, Failed, Word}

@@ -48,5 +48,5 @@ filled_world old is slot read heap sized g = world_stays old is (record old.hand
 pub fetched_world : {answers : C.Answers} {old : LoadingWorld} {slot : ℕ} {fault : Option C.FetchFault} {new : LoadingWorld} → IsLoadingWorld old → C.FetchesFrom Fills answers old slot fault new → IsLoadingWorld new
 fetched_world {answers} {old} {slot} {fault} {new} is f = elim (M.fetch_outcome f).1 [
   | inl e ↦ subst IsLoadingWorld (sym e) is
-  | inr (read, sized, given, g) ↦ subst IsLoadingWorld (sym f.rest) (filled_world old is slot read _ sized g)
+  | inr (read, sized, given, g) ↦ subst IsLoadingWorld (sym f.rest) (filled_world old is _ _ _ sized g)
 ]

@@ -15,11 +15,11 @@ put_twice m id a b = C.same_map C.nat_cmp_total C.nat_cmp-IsAntisymmetric _ _ (�
 -- an object that was put and then changed
 put_changed : (m : FinMap nat_cmp Object) (id : ℕ) (a : Object) (f : Object → Object) → C.update (finmap.insert m id a) id f ≡ finmap.insert m id (f a)
 put_changed m id a f =
-    (λ i. elim (inserted_here m id a id refl i) [ Some p ↦ finmap.insert (finmap.insert m id a) id (f p) | None ↦ finmap.insert m id a ]) ∙ put_twice m id a (f a)
+    (λ i. elim (inserted_here m id a id refl i) [ Some p ↦ finmap.insert (finmap.insert m id a) id (f p) | None ↦ finmap.insert m id a ]) ∙ put_twice m id a _
 
 -- all bytes replaced
 all_replaced : (b bytes : List ℕ) → length b ≡ length bytes → put_part b 0 bytes ≡ bytes
-all_replaced b bytes e = ap (λ rest. bytes ++ rest) (C.drop_all _ b (omega (arith, e))) ∙ C.append-nil bytes
+all_replaced b bytes e = ap (λ rest. bytes ++ rest) (C.drop_all _ b (omega (arith, e))) ∙ C.append-nil _
 
 module _ (old : Heap) (slot : ℕ) (o : Object) (bytes : List ℕ) (ours : All (λ b. b < 256) bytes) where
   abbrev with_bytes : List ℕ → Object
@@ -76,5 +76,5 @@ fill_law old next slot o bytes answered there absent ours a = turn _ a.request
   where
     turn : (t : Bool) → Request old slot (record { options = revival_options; prefix = discards_needed old (length bytes) (Some slot) revival_options; becomes = IsNew false (length bytes) o.kind o.locks; order = with_newest slot }) t next
         → Fills old slot bytes t (cond t (after_write next slot 0 bytes) next)
-    turn true r = record { before = o; there = there; absent = absent; some = a.some; rounded = a.rounded; are_bytes = ours; request = request old slot o bytes ours next _ true r }
-    turn false r = record { before = o; there = there; absent = absent; some = a.some; rounded = a.rounded; are_bytes = ours; request = request old slot o bytes ours next _ false r }
+    turn true r = record { before = o; there = there; absent = absent; some = a.some; rounded = a.rounded; are_bytes = ours; request = request old _ o _ ours _ _ _ r }
+    turn false r = record { before = o; there = there; absent = absent; some = a.some; rounded = a.rounded; are_bytes = ours; request = request old _ o _ ours _ _ _ r }

@@ -18,14 +18,14 @@ refused old h asked new = turn _
 pub one_outcome : (MayFail : FetchFault → Type 0) (IsSized IsRead : List ℕ → Type 0) (old : Heap) (slot : ℕ) (fault : Option FetchFault) (new : Heap) → GivesRead Fills MayFail IsSized IsRead old slot fault new
     → (is_some fault ≡ true → new ≡ old) × ((new ≡ old) ⊎ ((read : List ℕ) × IsSized read × IsRead read × Fills old slot read true new))
 one_outcome MayFail IsSized IsRead old slot None new f = (λ t. absurd (false≢true t), inr f)
-one_outcome MayFail IsSized IsRead old slot (Some C.NoRoom) new (read, sized, f) = let e = refused old slot (C.asked_of old slot f.before read) new f.request in (λ t. e, inl e)
+one_outcome MayFail IsSized IsRead old slot (Some C.NoRoom) new (read, sized, f) = let e = refused old slot (C.asked_of old _ f.before _) new f.request in (λ t. e, inl e)
 one_outcome MayFail IsSized IsRead old slot (Some Store) new f = (λ t. f.1, inl f.1)
 one_outcome MayFail IsSized IsRead old slot (Some C.Damaged) new f = (λ t. f.1, inl f.1)
 
 pub fetch_outcome : {answers : Answers} {old : C.LoadingWorld} {slot : ℕ} {fault : Option FetchFault} {new : C.LoadingWorld} → FetchesFrom Fills answers old slot fault new
     → (is_some fault ≡ true → new ≡ old) × ((new ≡ old) ⊎ ((read : List ℕ) × IsOwnedSize old slot read × answers.gives old slot read × Fills old.handles.heap slot read true new.handles.heap))
 fetch_outcome {answers} {old} {slot} {fault} {new} f =
-    let o = one_outcome answers.fails (IsOwnedSize old slot) (answers.gives old slot) old.handles.heap slot fault new.handles.heap f.given in
+    let o = one_outcome answers.fails _ _ _ slot fault _ f.given in
     (λ t. same (o.0 t), elim o.1 [ inl e ↦ inl (same e) | inr g ↦ inr g ])
   where
     same : new.handles.heap ≡ old.handles.heap → new ≡ old
@@ -77,19 +77,15 @@ module _ (answers : Answers) (P : Heap → Heap → Type 0) (same : (h : Heap) �
 
 -- the heap that is left
 pub one_heap : (answers : Answers) (old : Heap) (slot : ℕ) (held : List ℕ) (fault : Option FetchFault) (new : Heap) → IsHeap old → GivesFrom Fills answers old slot held fault new → IsHeap new
-one_heap answers old slot held fault new is f = (one_does answers (λ a b. Unit {0}) (λ h. tt) (λ a b c x y. tt) old slot held fault new is (λ read long again filled. tt) f).1
+one_heap answers old slot held fault new is f = (one_does answers (λ a b. Unit {0}) (λ h. tt) (λ a b c x y. tt) old slot _ _ new is (λ read long again filled. tt) f).1
 
 -- One way to give bytes as another, in such heaps.
 pub in_turn_so : (f g : C.Giving) (Is : Heap → Type 0) → ((old : Heap) (slot : ℕ) (bytes : List ℕ) (fault : Option FetchFault) (new : Heap) → Is old → f old slot bytes fault new → g old slot bytes fault new × Is new)
     → (old new : Heap) (xs : List Filling) (failure : Option Failure) → Is old → InTurn f old xs failure new → InTurn g old xs failure new
 in_turn_so f g Is turns old new [] failure is h = h
 in_turn_so f g Is turns old new (x ∷ xs) failure is (None, next, one, rest) =
-    let r = turns old _ _ None next is one in (None, next, r.0, in_turn_so f g Is turns next new xs _ r.1 rest)
-in_turn_so f g Is turns old new (x ∷ xs) failure is (Some fault, next, one, rest) = (Some fault, next, (turns old _ _ _ next is one).0, rest)
-
-pub in_turn_as : (f g : C.Giving) → ((old : Heap) (slot : ℕ) (bytes : List ℕ) (fault : Option FetchFault) (new : Heap) → IsHeap old → f old slot bytes fault new → g old slot bytes fault new × IsHeap new)
-    → (old new : Heap) (xs : List Filling) (failure : Option Failure) → IsHeap old → InTurn f old xs failure new → InTurn g old xs failure new
-in_turn_as f g = in_turn_so f g _
+    let r = turns old _ _ _ _ is one in (None, next, r.0, in_turn_so f g Is turns _ new xs _ r.1 rest)
+in_turn_so f g Is turns old new (x ∷ xs) failure is (Some fault, next, one, rest) = (Some _, next, (turns old _ _ _ _ is one).0, rest)
 
 -- Objects that get none are kept, or discarded.
 
@@ -125,8 +121,8 @@ AreThere old new = (q : ℕ) → is_some (object_at new q) ≡ is_some (object_a
 
 pub filled_there : (old : Heap) (slot : ℕ) (bytes : List ℕ) (new : Heap) → IsHeap old → Fills old slot bytes true new → AreThere old new
 filled_there old slot bytes new is f q = elim (C.cases_eq q slot) [
-  | inl e ↦ ap is_some (ap (object_at new) e ∙ filled_object old slot bytes new f) ∙ sym (ap is_some (ap (object_at old) e ∙ f.there))
-  | inr d ↦ lost old new q (filled_other old slot bytes new f is q d)
+  | inl e ↦ ap is_some (ap (object_at new) e ∙ filled_object old _ _ new f) ∙ sym (ap is_some (ap (object_at old) e ∙ f.there))
+  | inr d ↦ lost old new q (filled_other old _ _ new f is q d)
 ]
 
 -- Where an object has as many slots as its new bytes need, it still has.
@@ -141,8 +137,8 @@ kept_sized old new q n (inr k) h = turn _ k
 
 pub filled_sized : (old : Heap) (slot : ℕ) (bytes : List ℕ) (new : Heap) → IsHeap old → Fills old slot bytes true new → (q n : ℕ) → (q ≡ slot → n ≡ slots_for (length bytes)) → IsSized n (bytes_at old q) → IsSized n (bytes_at new q)
 filled_sized old slot bytes new is f q n enough h = elim (C.cases_eq q slot) [
-  | inl e ↦ sized_is refl (ap bytes_in (ap (object_at new) e ∙ filled_object old slot bytes new f)) (enough e)
-  | inr d ↦ kept_sized old new q n (filled_other old slot bytes new f is q d) h
+  | inl e ↦ sized_is refl (ap bytes_in (ap (object_at new) e ∙ filled_object old _ _ new f)) (enough e)
+  | inr d ↦ kept_sized old new q n (filled_other old _ _ new f is q d) h
 ]
 
 -- The range and the grain stay.
@@ -159,12 +155,12 @@ pub ranges : (old mid new : Heap) → SameRange old mid → SameRange mid new �
 ranges old mid new a b = record { lo = b.lo ∙ a.lo; hi = b.hi ∙ a.hi; grain = b.grain ∙ a.grain }
 
 absents_range : (ids : List ℕ) (heap : Heap) → SameRange heap (fold absent heap ids)
-absents_range [] heap = same_range heap
-absents_range (id ∷ ids) heap = ranges heap (absent heap id) _ (record { lo = refl; hi = refl; grain = refl }) (absents_range ids _)
+absents_range [] heap = same_range _
+absents_range (id ∷ ids) heap = ranges _ (absent _ id) _ (record { lo = refl; hi = refl; grain = refl }) (absents_range ids _)
 
 pub filled_range : (old : Heap) (slot : ℕ) (bytes : List ℕ) (new : Heap) → Fills old slot bytes true new → SameRange old new
 filled_range old slot bytes new f =
-    let s = settled_so old slot bytes new f in
+    let s = settled_so old _ _ new f in
     let d = absents_range (take s.0 _) old in
     record { lo = ap (λ h. h.lo) s.2.same ∙ d.lo; hi = ap (λ h. h.hi) s.2.same ∙ d.hi; grain = ap (λ h. h.grain) s.2.same ∙ d.grain }
 

@@ -11,7 +11,7 @@ use Rattle.std.specs.FinMap as finmap
 -- no element passes where there is no place of one
 all_fail : {X : Type 0} (p : X → Bool) (xs : List X) → length xs ≤ position_or_len p xs → (x : X) → Member x xs → p x ≡ false
 all_fail p [] le x m = absurd m
-all_fail p (y ∷ xs) le x m = turn (p y) refl le (λ more k. all_fail p xs more x k) m
+all_fail p (y ∷ xs) le x m = turn _ refl le (λ more k. all_fail p xs more x k) m
   where
     turn : (b : Bool) → p y ≡ b → length (y ∷ xs) ≤ cond (not b) (1 + position_or_len p xs) 0 → (length xs ≤ position_or_len p xs → Member x xs → p x ≡ false) → Member x (y ∷ xs) → p x ≡ false
     turn true t le rest m = absurd (omega (arith, le))
@@ -79,8 +79,8 @@ given_slot place (f ∷ fs) (h ∷ hs) (s ∷ ss) g q (inr m) n = in_second q s 
 -- a slot is one module's
 apart_from : (s more : List ℕ) (q : ℕ) → EachPair (λ a b. a ≢ b) (s ++ more) → Member q s → Member q more → ⊥
 apart_from [] more q differ m n = m
-apart_from (x ∷ s) more q differ (inl e) n = Each-at (λ b. x ≢ b) (s ++ more) differ.0 q (in_second q s more n) (sym e)
-apart_from (x ∷ s) more q differ (inr m) n = apart_from s more q differ.1 m n
+apart_from (x ∷ s) more q differ (inl e) n = Each-at (λ b. x ≢ b) (s ++ more) differ.0 q (in_second q s _ n) (sym e)
+apart_from (x ∷ s) more q differ (inr m) n = apart_from s _ q differ.1 m n
 
 pub first_apart : (s more : List ℕ) → EachPair (λ a b. a ≢ b) (s ++ more) → EachPair (λ a b. a ≢ b) s
 first_apart [] more differ = tt
@@ -88,7 +88,7 @@ first_apart (x ∷ s) more differ = (each_first s more differ.0, first_apart s m
   where
     each_first : (s more : List ℕ) → Each (λ b. x ≢ b) (s ++ more) → Each (λ b. x ≢ b) s
     each_first [] more h = tt
-    each_first (y ∷ s) more h = (h.0, each_first s more h.1)
+    each_first (y ∷ s) more h = (h.0, each_first s _ h.1)
 
 pub one_given : (place : ℕ) (fs : List Found) (hs : List ℕ) (ss : List (List ℕ)) (g h : Given) (q : ℕ) → EachPair (λ a b. a ≢ b) (flat_map (λ s. s) ss)
     → Member g (given_from place fs hs ss) → Member h (given_from place fs hs ss) → Member q g.slots → Member q h.slots → h ≡ g
@@ -172,10 +172,10 @@ one_named first (f ∷ fs) [] ss apart g h m n t = absurd m
 one_named first (f ∷ fs) (k ∷ hs) [] apart g h m n t = absurd m
 one_named first (f ∷ fs) (k ∷ hs) (s ∷ ss) apart g h (inl d) (inl e) t = d ∙ sym e
 one_named first (f ∷ fs) (k ∷ hs) (s ∷ ss) apart g h (inl d) (inr n) t = absurd
-    (false≢true (sym (Each-at (λ x. is_named f.read.tables.name x.read.tables.name ≡ false) fs apart.0
+    (false≢true (sym (Each-at (λ x. is_named _ _ ≡ false) fs apart.0
     h.found (given_found _ fs hs ss h n)) ∙ subst
     (λ x. is_named x.found.read.tables.name h.found.read.tables.name ≡ true) d t))
-one_named first (f ∷ fs) (k ∷ hs) (s ∷ ss) apart g h (inr m) (inl e) t = absurd (false≢true (sym (Each-at (λ x. is_named f.read.tables.name x.read.tables.name ≡ false) fs apart.0 g.found (given_found _ fs hs ss g m))
+one_named first (f ∷ fs) (k ∷ hs) (s ∷ ss) apart g h (inr m) (inl e) t = absurd (false≢true (sym (Each-at (λ x. is_named _ _ ≡ false) fs apart.0 g.found (given_found _ fs hs ss g m))
     ∙ subst (λ x. is_named x.found.read.tables.name g.found.read.tables.name ≡ true) e (named_back _ _ t)))
 one_named first (f ∷ fs) (k ∷ hs) (s ∷ ss) apart g h (inr m) (inr n) t = one_named (first + 1) fs hs ss apart.1 g h m n t
 
@@ -216,7 +216,7 @@ new_or_old module_of gs old handle m e = elim (put_named module_of gs old handle
 
 -- handles of later modules differ
 later_handles : (place : ℕ) (fs : List Found) (hs : List ℕ) (ss : List (List ℕ)) (h : ℕ) → Each (λ b. h ≢ b) hs → (g : Given) → Member g (given_from place fs hs ss) → h ≢ g.handle
-later_handles place fs hs ss h differ g m = Each-at (λ b. h ≢ b) hs differ _ (given_handle place fs hs ss g m)
+later_handles place fs hs ss h differ g m = Each-at (λ b. h ≢ b) hs differ _ (given_handle _ fs hs ss g m)
 
 pub put_here : (module_of : Given → Module) (place : ℕ) (fs : List Found) (hs : List ℕ) (ss : List (List ℕ)) (old : Modules) → EachPair (λ a b. a ≢ b) hs → (g : Given) → Member g (given_from place fs hs ss)
     → finmap.get (with_modules module_of (given_from place fs hs ss) old) g.handle ≡ Some (Loaded (module_of g))
@@ -225,8 +225,8 @@ put_here module_of place (f ∷ fs) [] ss old differ g m = absurd m
 put_here module_of place (f ∷ fs) (h ∷ hs) [] old differ g m = absurd m
 put_here module_of place (f ∷ fs) (h ∷ hs) (s ∷ ss) old differ g (inl e) =
     let one : Given = record { place = place; found = f; handle = h; slots = s } in
-    put_all module_of (given_from _ fs hs ss) (finmap.insert old h _) g.handle (λ x n. subst (λ k. k ≢ x.handle) (sym (λ i. (e i).handle)) (later_handles _ fs hs ss h differ.0 x n))
-    ∙ C.inserted_here old h (Loaded _) g.handle (λ i. (e i).handle) ∙ (λ i. Some (Loaded (module_of (sym e i))))
+    put_all module_of (given_from _ fs hs ss) _ _ (λ x n. subst (λ k. k ≢ x.handle) (sym (λ i. (e i).handle)) (later_handles _ fs hs ss h differ.0 x n))
+    ∙ C.inserted_here old h _ _ (λ i. (e i).handle) ∙ (λ i. Some (Loaded (module_of (sym e i))))
 put_here module_of place (f ∷ fs) (h ∷ hs) (s ∷ ss) old differ g (inr m) = put_here module_of (place + 1) fs hs ss (finmap.insert old h (Loaded (module_of (record { place = place; found = f; handle = h; slots = s })))) differ.1 g m
 
 -- What is filled is some segment's image: at one place among a module's.
@@ -246,7 +246,7 @@ fill_of place [] segments data_of values x m = absurd m
 fill_of place (q ∷ qs) [] data_of values x m = absurd m
 fill_of place (q ∷ qs) (g ∷ gs) [] values x m = absurd m
 fill_of place (q ∷ qs) (g ∷ gs) (s ∷ ss) [] x m = absurd m
-fill_of place (q ∷ qs) (g ∷ gs) (s ∷ ss) (v ∷ vs) x m = turn _ (λ n. fill_of place qs gs ss vs x n) m
+fill_of place (q ∷ qs) (g ∷ gs) (s ∷ ss) (v ∷ vs) x m = turn _ (λ n. fill_of _ qs gs ss vs x n) m
   where
     later : IsFillOf qs gs ss vs x → IsFillOf (q ∷ qs) (g ∷ gs) (s ∷ ss) (v ∷ vs) x
     later f = record { place = suc _; segment = f.segment; its_data = f.its_data; its_values = f.its_values; slot_at = f.slot_at; segment_at = f.segment_at; data_at = f.data_at; values_at = f.values_at; image = f.image }
@@ -263,7 +263,7 @@ IsFilledBy module_of g x = IsFillOf g.slots g.found.read.tables.segments g.found
 pub filled_by : (module_of : Given → Module) (gs : List Given) (x : Filling) → Member x (flat_map (fills_of module_of) gs) → (g : Given) × Member g gs × IsFilledBy module_of g x
 filled_by module_of [] x m = absurd m
 filled_by module_of (g ∷ gs) x m = elim (parted x _ _ m) [
-  | inl a ↦ (g, inl refl, fill_of g.place g.slots g.found.read.tables.segments g.found.read.segments (module_of g).values x a)
+  | inl a ↦ (g, inl refl, fill_of g.place g.slots _ _ (module_of g).values x a)
   | inr b ↦ let r = filled_by module_of gs x b in (r.0, inr r.1, r.2)
 ]
 

@@ -15,7 +15,7 @@ there_entry m q v e = C.found_member _ q v (sym (C.get-entries m q) ∙ e)
 -- what is found is a member that passes
 pub found_passes : {X : Type 0} (p : X → Bool) (xs : List X) (x : X) → find p xs ≡ Some x → Member x xs × (p x ≡ true)
 found_passes p [] x e = cc
-found_passes p (y ∷ ys) x e = turn (p y) refl e (found_passes p ys x)
+found_passes p (y ∷ ys) x e = turn _ refl e (found_passes p ys x)
   where
     turn : (b : Bool) → p y ≡ b → cond b (Some y) (find p ys) ≡ Some x → (find p ys ≡ Some x → Member x ys × (p x ≡ true)) → Member x (y ∷ ys) × (p x ≡ true)
     turn true t e rest = let same : y ≡ x = cc in (inl (sym same), ap p (sym same) ∙ t)
@@ -23,19 +23,19 @@ found_passes p (y ∷ ys) x e = turn (p y) refl e (found_passes p ys x)
 
 -- a handle that a name leads to names something of this name
 pub named_there : (modules : Modules) (name : List ℕ) (handle : ℕ) → C.handle_named modules name ≡ Some handle → (n : Named) × (finmap.get modules handle ≡ Some n) × (is_named (name_of n) name ≡ true)
-named_there modules name handle e = turn (find (λ x. is_named _ name) _) refl e
+named_there modules name handle e = turn (find (λ x. is_named _ _) _) refl e
   where
     turn : (p : C.Option (ℕ × Named)) → find (λ x. is_named (name_of x.1) name) (finmap.entries modules) ≡ p → C.option_map (λ x. x.0) p ≡ Some handle
         → (n : Named) × (finmap.get modules handle ≡ Some n) × (is_named (name_of n) name ≡ true)
     turn None f e = cc
     turn (Some x) f e =
         let same : x.0 ≡ handle = cc in
-        let h = found_passes (λ x. is_named _ name) _ x f in
+        let h = found_passes (λ x. is_named _ _) _ x f in
         (x.1, ap (finmap.get _) (sym same) ∙ entry_there _ x.0 x.1 h.0, h.1)
 
 -- some are counted where one passes
 counted_some : {X : Type 0} (p : X → Bool) (xs : List X) → 0 < C.count_by p xs → (x : X) × Member x xs × (p x ≡ true)
-counted_some p xs lt = turn (filter p xs) refl (subst (λ n. 0 < n) (sym (C.length-filter p xs)) lt)
+counted_some p xs lt = turn _ refl (subst (λ n. 0 < n) (sym (C.length-filter p xs)) lt)
   where
     turn : (ys : List _) → filter p xs ≡ ys → 0 < C.length ys → (x : _) × Member x xs × (p x ≡ true)
     turn [] e lt = absurd (omega (arith, lt))
@@ -63,14 +63,14 @@ importer_of modules handle lt =
     record {
       who = x.0.0;
       importer = x.0.1;
-      there = entry_there _ x.0.0 x.0.1 x.1;
-      other = λ e. false≢true (sym (C.not-true _ parts.0) ∙ C.eq-eqb x.0.0 _ e);
+      there = entry_there _ _ _ x.1;
+      other = λ e. false≢true (sym (C.not-true _ parts.0) ∙ C.eq-eqb _ _ e);
       uses = parts.1;
     }
 
 pub of_importer : (modules : Modules) (handle : ℕ) → HasImporter modules handle → 0 < importers modules handle
-of_importer modules handle h = some_counted (λ e. not (e.0 == handle) && imports e.1 handle) (finmap.entries _) (h.who, h.importer) (there_entry _ h.who _ h.there)
-    (ap (λ b. not b && imports h.importer handle) (C.ne_eqb h.who _ h.other) ∙ h.uses)
+of_importer modules handle h = some_counted (λ e. not (e.0 == handle) && imports e.1 handle) (finmap.entries _) (h.who, h.importer) (there_entry _ _ _ h.there)
+    (ap (λ b. not b && imports h.importer handle) (C.ne_eqb _ _ h.other) ∙ h.uses)
 
 -- What it is to be idle.
 pub record Idle (modules : Modules) (handle : ℕ) : Type 0 where

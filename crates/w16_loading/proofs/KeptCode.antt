@@ -53,7 +53,7 @@ bytes_kept format old new keeps code slot handle number m segment coded = turn (
 modules_kept : (format : Format) (old new : LoadingWorld) → KeepsCode format old new → C.ModulesAreItsFiles format old → C.ModulesAreItsFiles format new
 modules_kept format old new keeps modules handle m loaded =
     let was = keeps.modules handle m loaded in
-    turn was.0 was.2 (read_of format old was.0) (λ i. read_in format (keeps.files i) (was.2.file i)) (modules handle was.0 was.1)
+    turn was.0 was.2 _ (λ i. read_in format (keeps.files i) (was.2.file i)) (modules handle was.0 was.1)
   where
     turn : (before : Module) → SameSource m before → (p : Option C.ModuleFile) → read_of format new m ≡ p → IsSomeAnd p (IsItsFiles before) → IsSomeAnd (read_of format new m) (IsItsFiles m)
     turn before same None e h = absurd h
@@ -86,8 +86,8 @@ with_code format old heap bytes = record { files = refl; modules = λ handle m e
 -- what was filled has these bytes, and all else the bytes that it had, or none
 one_bytes : (old : Heap) (slot : ℕ) (bytes : List ℕ) (new : Heap) → IsHeap old → Fills old slot bytes true new → (q : ℕ) → IfSome (bytes_at new q) (λ b. (bytes_at old q ≡ Some b) ⊎ ((q ≡ slot) × (b ≡ bytes)))
 one_bytes old slot bytes new is f q = elim (C.cases_eq q slot) [
-  | inl same ↦ subst (λ p. IfSome p (λ b. (bytes_at old q ≡ Some b) ⊎ ((q ≡ slot) × (b ≡ bytes)))) (sym (ap (bytes_at new) same ∙ ap C.bytes_in (filled_object old slot bytes new f))) (inr (same, refl))
-  | inr other ↦ if_some _ (λ b e. inl e) (kept_bytes old new q (filled_other old slot bytes new f is q other))
+  | inl same ↦ subst (λ p. IfSome p (λ b. (bytes_at old q ≡ Some b) ⊎ ((q ≡ slot) × (b ≡ bytes)))) (sym (ap (bytes_at new) same ∙ ap C.bytes_in (filled_object old _ _ new f))) (inr (same, refl))
+  | inr other ↦ if_some _ (λ b e. inl e) (kept_bytes old new q (filled_other old _ _ new f is q other))
 ]
 
 -- all that was filled has its bytes, where these are read again
@@ -100,7 +100,7 @@ ReadsAgain answers = (held read : List ℕ) → answers.again held read → read
 pub fills_bytes : (answers : Answers) → ReadsAgain answers → (old new : Heap) (xs : List Filling) (failure : Option C.Failure) → IsHeap old → C.InTurn (C.GivesFrom Fills answers) old xs failure new
     → (q : ℕ) → IfSome (bytes_at new q) (λ b. (bytes_at old q ≡ Some b) ⊎ IsFilled xs q b)
 fills_bytes answers exact old new xs failure is f q = (any_do answers Has (λ h. if_some _ (λ b e. inl e) (same_bytes h h q refl)) then old new xs failure is
-    (λ x m a b h read long again g. if_some (bytes_at b q) (λ c k. elim k [ inl e ↦ inl e | inr e ↦ inr (x, m, e.0, e.1 ∙ exact _ read again) ]) (one_bytes a _ read b h g q)) f).0
+    (λ x m a b h read long again g. if_some (bytes_at b q) (λ c k. elim k [ inl e ↦ inl e | inr e ↦ inr (x, m, e.0, e.1 ∙ exact _ _ again) ]) (one_bytes a _ _ b h g q)) f).0
   where
     Has : Heap → Heap → Type 0
     Has old new = IfSome (bytes_at new q) (λ b. (bytes_at old q ≡ Some b) ⊎ IsFilled xs q b)
@@ -113,7 +113,7 @@ abbrev pub FetchesCode : Format → Answers → LoadingWorld → ℕ → Type 0
 FetchesCode format answers old slot = (handle number : ℕ) (m : Module) (bytes : List ℕ) → IsSegmentOf old slot handle number m → is_code old slot ≡ true → answers.gives old slot bytes → segment_bytes format old m number ≡ Some bytes
 
 pub fetched_code : {answers : Answers} {old : LoadingWorld} {slot : ℕ} {fault : Option C.FetchFault} {new : LoadingWorld} (format : Format) → IsHeap old.handles.heap → FetchesCode format answers old slot → C.FetchesFrom Fills answers old slot fault new → KeepsCode format old new
-fetched_code {answers} {old} {slot} {fault} {new} format is fetches f = subst (KeepsCode _ old) (sym f.rest) (with_code _ old new.handles.heap bytes)
+fetched_code {answers} {old} {slot} {fault} {new} format is fetches f = subst (KeepsCode _ old) (sym f.rest) (with_code _ old _ bytes)
   where
     bytes : (q handle number : ℕ) (m : Module) → IsSegmentOf old q handle number m → is_code old q ≡ true → IfSome (bytes_at new.handles.heap q) (λ b. (bytes_at old.handles.heap q ≡ Some b) ⊎ (segment_bytes format old m number ≡ Some b))
     bytes q handle number m s coded = elim (fetch_outcome f).1 [
@@ -121,5 +121,5 @@ fetched_code {answers} {old} {slot} {fault} {new} format is fetches f = subst (K
       | inr (read, sized, given, g) ↦ if_some (bytes_at new.handles.heap q) (λ b k. elim k [
         | inl e ↦ inl e
         | inr e ↦ inr (fetches handle number m read (subst (λ k. IsSegmentOf old k handle number m) e.0 s) (subst (λ k. is_code old k ≡ true) e.0 coded) given ∙ ap Some (sym e.1))
-      ]) (one_bytes _ slot read _ is g q)
+      ]) (one_bytes _ _ _ _ is g q)
     ]

@@ -105,5 +105,5 @@ module _ (answers : Answers) (old : LoadingWorld) (is : C.IsLoadingWorld old) (q
 pub owners_law : (honest : Type 0) → C.OwnersLaw honest
 owners_law honest format old new command reply is step slot there =
     let answers = told honest format old.files old.failures new.failures in
-    family (C.FetchesFrom Fills _) (C.LoadsFrom Fills answers) (λ slice. Unit {0}) old (λ w. C.KeepsOwner old.handles w.handles slot)
-    (parts _ old is slot there) (record new { failures = old.failures }) reply command (nothing_asked _) step.step
+    family (C.FetchesFrom _ _) (C.LoadsFrom Fills answers) (λ slice. Unit {0}) old (λ w. C.KeepsOwner old.handles w.handles slot)
+    (parts _ old is _ there) (record new { failures = old.failures }) reply command (nothing_asked _) step.step

@@ -71,20 +71,20 @@ world_recounted old is next are failures owned keeps = follows old (record old {
   names = is.names;
   sources = λ handle m e. (m, e, same_module m);
   used = is_used old is;
-  loads = λ slot load e. (load.loads, e, (is_load old is slot load e).0, (is_load old is slot load e).1);
+  loads = λ slot load e. (load.loads, e, (is_load old is _ _ e).0, (is_load old is _ _ e).1);
   still = λ slot load before at e. (before, e, same_module _);
-  of_segments = λ handle m slot kind size code e k h. object slot kind size code h;
-  of_loads = λ slot load kind size code e h. object slot kind size code h;
-  owners = λ slot t. owner_stays old is (record old { handles = next; failures = failures }) (λ handle m e. (m, e, same_module m)) (λ q load e. (load.loads, e)) slot (ap is_some (sym (owned slot)) ∙ t);
+  of_segments = λ handle m slot kind size code e k h. object _ _ _ _ h;
+  of_loads = λ slot load kind size code e h. object _ _ _ _ h;
+  owners = λ slot t. owner_stays old is (record old { handles = next; failures = failures }) (λ handle m e. (m, e, same_module m)) (λ q load e. (load.loads, e)) _ (ap is_some (sym (owned _)) ∙ t);
 })
   where
     object : (slot : ℕ) (kind : Kind) (size : ℕ) (code : Bool) → IsObjectOf old slot kind size code → IsObjectOf (record old { handles = next; failures = failures }) slot kind size code
-    object slot kind size code h = record { object = keeps slot kind size code h; owned = owned slot ∙ h.owned }
+    object slot kind size code h = record { object = keeps _ _ _ _ h; owned = owned _ ∙ h.owned }
 
 -- and at the same count of failures
 pub world_stays : (old : LoadingWorld) → IsLoadingWorld old → (next : Handles) → AreHandles next → SameOwned old.handles next → ((slot : ℕ) (kind : Kind) (size : ℕ) (code : Bool) → IsObjectOf old slot kind size code → IsOwned next.heap slot kind size) → IsLoadingWorld (record old { handles = next })
-world_stays old is next are owned keeps = world_recounted old is next are _ owned keeps
+world_stays old is next are owned keeps = world_recounted old is _ are _ owned keeps
 
 -- whatever the count
 pub recounted : (world : LoadingWorld) → IsLoadingWorld world → (failures : ℕ) → IsLoadingWorld (record world { failures = failures })
-recounted world is failures = world_recounted world is _ is.handles _ (λ q. refl) (λ slot kind size code h. h.object)
+recounted world is failures = world_recounted _ is _ is.handles _ (λ q. refl) (λ slot kind size code h. h.object)

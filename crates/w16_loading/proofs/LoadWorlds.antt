@@ -16,8 +16,8 @@ use Rattle.std.specs.FinMap as finmap
 
 -- What is filled has its size, and all else what it had.
 all_owned : (answers : C.Answers) (old new : Heap) (xs : List Filling) → C.IsHeap old → C.InTurn (C.GivesFrom Fills answers) old xs None new → (q : ℕ) (kind : Kind) (size : ℕ) → ((x : Filling) → Member x xs → q ≡ x.slot → length x.bytes ≡ size) → IsOwned old q kind size → IsOwned new q kind size
-all_owned answers old new xs is f q kind size long = (any_do answers (λ a b. IsOwned a q kind size → IsOwned b q kind size) (λ a k. k) (λ a b c x y k. y (x k)) old new xs None is
-    (λ x m a b h read same again g. filled_owned a _ read b h g q kind size (λ e. same ∙ long x m e)) f).0
+all_owned answers old new xs is f q kind size long = (any_do answers (λ a b. IsOwned a q kind _ → IsOwned b q _ _) (λ a k. k) (λ a b c x y k. y (x k)) old new xs None is
+    (λ x m a b h read same again g. filled_owned a _ _ b h g q _ _ (λ e. same ∙ long x m e)) f).0
 
 -- Names.
 
@@ -26,7 +26,7 @@ pub named_new : (w : LoadingWorld) (xs : List (ℕ × Segment)) → AreApart xs 
     × (owned_at (fold with_segment w xs).handles x.0 ≡ Some (record { size = x.1.size; code = x.1.is_code }))
 named_new w [] apart x m = absurd m
 named_new w (y ∷ xs) apart x (inl e) = (
-  (fold_named (with_segment w y) xs).others x.0 out ∙ inserted_here w.handles.heap.objects y.0 (record { kind = y.1.kind; locks = 0; bytes = None }) x.0 (λ i. (e i).0) ∙ (λ i. Some (record { kind = (sym e i).1.kind; locks = 0; bytes = None })),
+  (fold_named _ xs).others x.0 out ∙ inserted_here _ y.0 (record { kind = y.1.kind; locks = 0; bytes = None }) x.0 (λ i. (e i).0) ∙ (λ i. Some (record { kind = (sym e i).1.kind; locks = 0; bytes = None })),
   same_owned (with_segment w y) xs x.0 out ∙ ap owned_in (inserted_here w.handles.attributes y.0 (attributes_of y.1) x.0 (λ i. (e i).0)) ∙ (λ i. Some (record { size = (sym e i).1.size; code = (sym e i).1.is_code })),
 )
   where

@@ -35,7 +35,7 @@ module _ (old : LoadingWorld) (is : IsLoadingWorld old) (modules : Modules)
 -- importers stay where what each handle names stays, with its imports
 pub importers_stay : (old new : Modules) (handle : ℕ) → ((who : ℕ) (n : Named) → finmap.get old who ≡ Some n → (now : Named) × (finmap.get new who ≡ Some now) × (imports now handle ≡ imports n handle)) → HasImporter old handle → HasImporter new handle
 importers_stay old new handle stays h =
-    let now = stays h.who _ h.there in
+    let now = stays _ _ h.there in
     record { who = h.who; importer = now.0; there = now.1; other = h.other; uses = now.2 ∙ h.uses }
 
 -- and so does a use
@@ -137,7 +137,7 @@ module _ (old : LoadingWorld) (is : IsLoadingWorld old) (handle : ℕ) (m : Modu
 -- what no entry has, none is found for
 pub find_none : {X : Type 0} (p : X → Bool) (xs : List X) → find p xs ≡ None → (x : X) → Member x xs → p x ≡ false
 find_none p [] e x m = absurd m
-find_none p (y ∷ xs) e x m = turn (p y) refl e (λ f. find_none p xs f x) m
+find_none p (y ∷ xs) e x m = turn _ refl e (λ f. find_none p xs f x) m
   where
     turn : (b : Bool) → p y ≡ b → cond b (Some y) (find p xs) ≡ None → (find p xs ≡ None → Member x xs → p x ≡ false) → Member x (y ∷ xs) → p x ≡ false
     turn true t e rest m = cc
@@ -145,7 +145,7 @@ find_none p (y ∷ xs) e x m = turn (p y) refl e (λ f. find_none p xs f x) m
     turn false t e rest (inr m) = rest e m
 
 pub not_named : (modules : Modules) (name : List ℕ) → handle_named modules name ≡ None → (handle : ℕ) (n : Named) → finmap.get modules handle ≡ Some n → is_named (name_of n) name ≡ false
-not_named modules name e handle n there = find_none (λ x. is_named _ name) _ (none (find (λ x. is_named _ name) _) e) (handle, n) (there_entry _ _ n there)
+not_named modules name e handle n there = find_none (λ x. is_named _ _) _ (none (find (λ x. is_named _ _) _) e) (handle, n) (there_entry _ _ n there)
   where
     none : (p : Option (ℕ × Named)) → option_map (λ x. x.0) p ≡ None → p ≡ None
     none None e = refl

@@ -13,14 +13,14 @@ zip_apart : (s : List ℕ) (segments : List Segment) (more : List ℕ) (tail : L
 zip_apart [] segments more tail differ inside apart = apart
 zip_apart (a ∷ s) [] more tail differ inside apart = apart
 zip_apart (a ∷ s) (g ∷ gs) more tail differ inside apart =
-    (Each-from (λ y. a ≢ y.0) _ (λ y m. Each-at (λ b. a ≢ b) (s ++ more) differ.0 y.0 (among y m)), zip_apart s gs more tail differ.1 inside apart)
+    (Each-from (λ y. a ≢ y.0) _ (λ y m. Each-at (λ b. a ≢ b) (s ++ more) differ.0 y.0 (among y m)), zip_apart s gs more _ differ.1 inside apart)
   where
     among : (y : ℕ × Segment) → Member y (zip s gs ++ tail) → Member y.0 (s ++ more)
-    among y m = elim (parted y _ tail m) [ inl k ↦ in_first y.0 s more (zipped s gs y k) | inr k ↦ in_second y.0 s more (inside y k) ]
+    among y m = elim (parted y _ _ m) [ inl k ↦ in_first y.0 s _ (zipped s gs y k) | inr k ↦ in_second y.0 s _ (inside y k) ]
 
 pub apart_after : (s more : List ℕ) → EachPair (λ a b. a ≢ b) (s ++ more) → EachPair (λ a b. a ≢ b) more
 apart_after [] more differ = differ
-apart_after (a ∷ s) more differ = apart_after s more differ.1
+apart_after (a ∷ s) more differ = apart_after s _ differ.1
 
 pub given_slots_apart : (place : ℕ) (fs : List Found) (hs : List ℕ) (ss : List (List ℕ)) → EachPair (λ a b. a ≢ b) (flat_map (λ s. s) ss) → AreApart (segments_of (C.given_from place fs hs ss))
 given_slots_apart place [] hs ss differ = tt

@@ -51,7 +51,7 @@ pub loaded_of : (world : LoadingWorld) → IsLoadingWorld world → (slot : ℕ)
 loaded_of world is slot load at = turn _ refl sound.resource
   where
     sound : IsLoad world slot load
-    sound = subst (λ p. IfSome p (IsLoad world slot)) at (is.loads slot)
+    sound = subst (λ p. IfSome p (IsLoad world slot)) at (is.loads _)
 
     turn : (p : Option Module) → C.module_at world.modules load.handle ≡ p → IsSomeAnd (elim p as (λ _. Option Resource) [ None ↦ None | Some n ↦ numbered n.tables.resources load.place ]) (λ r. IsObjectOf world slot r.kind (rounded_size r.length_in) false)
         → (m : Module) × IsResourceOf world slot load.handle load.place m
@@ -64,7 +64,7 @@ loaded_of world is slot load at = turn _ refl sound.resource
 first_place : (slot : ℕ) (xs : List ℕ) (i : ℕ) → position (λ q. q == slot) xs ≡ Some i → slice_get xs i ≡ Some slot
 first_place slot xs i e =
     let f : (i < C.length xs) × ((C.get_or xs i 0 == slot) ≡ true) × _ = C.position-Some (λ q. q == slot) xs i 0 e in
-    C.slice_get-get_or xs i 0 f.0 ∙ ap Some (C.eqb-true _ slot f.1)
+    C.slice_get-get_or xs i 0 f.0 ∙ ap Some (C.eqb-true _ _ f.1)
 
 module _ (world : LoadingWorld) (is : IsLoadingWorld world) (slot : ℕ) where
   abbrev IsAmong : List (ℕ × Named) → Owner → Type 0
@@ -136,4 +136,4 @@ module _ (world : LoadingWorld) (is : IsLoadingWorld world) (slot : ℕ) where
       let f : ◌≡◌ {A = Load} (record { handle = a; place = i; loads = x.1.loads }) (record { handle = b; place = j; loads = y.1.loads }) = cc in λ k. OfResource (f k).handle (f k).place
 
 pub owner_law : C.OwnerLaw
-owner_law world slot owner is = (λ e. subst (IsOwnerOf world slot) e (is_owner world is slot), λ h. one_owner world is slot _ owner (is_owner world is slot) h)
+owner_law world slot owner is = (λ e. subst (IsOwnerOf _ _) e (is_owner _ is _), λ h. one_owner _ is _ _ _ (is_owner _ is _) h)

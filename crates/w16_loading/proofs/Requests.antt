@@ -102,13 +102,13 @@ itself : (a : Answers) → IsWithin a a
 itself a = record { says = λ name said s. s; sound = λ name t sound s. s; holds = λ name read h. h; again = λ held read h. h; gives = λ world slot bytes h. h; fails = λ fault h. h }
 
 pub any_step_law : (honest : Type 0) → C.AnyStepLaw honest
-any_step_law honest format old new command reply = step_as Fills Fills (λ heap. Unit {0}) (λ old slot bytes answered new is f. f) _ _
-    (told_within _ format _ _ _) (λ old slot held fault new is f. tt) old (λ closure choice is. tt) new _ reply tt (λ slot handle place r free at none. tt)
+any_step_law honest format old new command reply = step_as _ _ (λ heap. Unit {0}) (λ old slot bytes answered new is f. f) _ _
+    (told_within _ format _ _ _) (λ old slot held fault new is f. tt) old (λ closure choice is. tt) new _ _ tt (λ slot handle place r free at none. tt)
 
 pub requests_fewest_law : (honest : Type 0) → C.RequestsFewestLaw honest
 requests_fewest_law honest format old new command reply is =
     let a = told _ format _ _ _ in
-    step_as Fills _ _ (λ old slot bytes answered new is f. (f, fill_fewest old slot bytes _ new is f)) a a (itself a) (one_heap a) old (λ closure choice good. named_heap old closure _ is.handles good) new _ reply is.handles.heap
+    step_as _ _ _ (λ old slot bytes answered new is f. (f, fill_fewest old _ _ _ new is f)) a a (itself a) (one_heap a) old (λ closure choice good. named_heap old closure _ is.handles good) new _ _ is.handles.heap
     (λ slot handle place r free at none. (made_world old is slot free handle place r at.0 at.1 none).handles.heap)
 
 -- A step, a fetch or a load whose requests discard as few objects as they can is one.
@@ -123,8 +123,8 @@ module _ (a : Answers) (old : LoadingWorld) where
   step_fills new command reply = step_as FillsFewest Fills (λ heap. Unit {0}) (λ old slot bytes answered new is f. f.0) a a (itself a) (λ old slot held fault new is f. tt) old (λ closure choice is. tt) new command reply tt (λ slot handle place r free at none. tt)
 
 pub any_requests_fewest : (honest : Type 0) (format : C.Format) (old new : LoadingWorld) (command : LoadingCommand) (reply : Reply) → C.IsLoadingWorld old → StepOver honest format old command reply new → RequestsFewest old command reply new
-any_requests_fewest honest format old new command reply is step = (format, requests_fewest_law ⊥ format old new _ reply is (any_step_law _ format old new _ reply step))
+any_requests_fewest honest format old new command reply is step = (format, requests_fewest_law ⊥ format old new _ _ is (any_step_law _ format old new _ _ step))
 
 -- A load's requests keep what isn't its own.
 pub fills_law : (honest : Type 0) → C.FillsLaw honest
-fills_law honest format files before after = any_kept (told _ format files _ after)
+fills_law honest format files before after = any_kept (told _ format files _ _)

@@ -7,10 +7,10 @@ use Rattle.std.specs.FinMap as finmap
 
 -- a value in a map from which keys went
 pub value_left : {X : Type 0} (m : FinMap nat_cmp X) (gone : ℕ → Bool) (q : ℕ) → gone q ≡ false → finmap.get (finmap.retain_keys m (λ k. not (gone k))) q ≡ finmap.get m q
-value_left m gone q t = retained m gone q ∙ ap (λ b. cond (not b) (finmap.get m q) None) t
+value_left m gone q t = retained m _ q ∙ ap (λ b. cond (not b) (finmap.get m q) None) t
 
 pub value_gone : {X : Type 0} (m : FinMap nat_cmp X) (gone : ℕ → Bool) (q : ℕ) → gone q ≡ true → finmap.get (finmap.retain_keys m (λ k. not (gone k))) q ≡ None
-value_gone m gone q t = retained m gone q ∙ ap (λ b. cond (not b) (finmap.get m q) None) t
+value_gone m gone q t = retained m _ q ∙ ap (λ b. cond (not b) (finmap.get m q) None) t
 
 -- no object has more slots then
 abbrev slots_in : C.Option C.Attributes → ℕ
@@ -18,8 +18,8 @@ slots_in p = C.unwrap_or (C.option_map (λ (a : C.Attributes). a.slots) p) 0
 
 fewer_slots : (old : C.Handles) (gone : ℕ → Bool) (q : ℕ) → slots_at (finmap.retain_keys old.attributes (λ q. not (gone q))) q ≤ slots_at old.attributes q
 fewer_slots old gone q = elim (cases_Bool (gone q)) [
-  | inl t ↦ let none : slots_at (finmap.retain_keys old.attributes (λ q. not (gone q))) q ≡ 0 = ap slots_in (value_gone _ gone q t) in omega (arith, none)
-  | inr t ↦ let same : slots_at (finmap.retain_keys old.attributes (λ q. not (gone q))) q ≡ slots_at old.attributes q = ap slots_in (value_left _ gone q t) in omega (arith, same)
+  | inl t ↦ let none : slots_at (finmap.retain_keys old.attributes (λ q. not (gone q))) q ≡ 0 = ap slots_in (value_gone _ _ q t) in omega (arith, none)
+  | inr t ↦ let same : slots_at (finmap.retain_keys old.attributes (λ q. not (gone q))) q ≡ slots_at old.attributes q = ap slots_in (value_left _ _ q t) in omega (arith, same)
 ]
 
 -- handles without some objects are handles
@@ -31,23 +31,23 @@ released_handles old is gone = record {
   few = is.few;
   runs = record {
     each = λ q. elim (cases_Bool (gone q)) [
-      | inl t ↦ subst (λ p. IfSome p (IsRun old.slots q)) (sym (value_gone _ gone q t)) tt
-      | inr t ↦ subst (λ p. IfSome p (IsRun old.slots q)) (sym (value_left _ gone q t)) (is.runs.each q)
+      | inl t ↦ subst (λ p. IfSome p (IsRun old.slots q)) (sym (value_gone _ _ q t)) tt
+      | inr t ↦ subst (λ p. IfSome p (IsRun old.slots q)) (sym (value_left _ _ q t)) (is.runs.each q)
     ];
     apart = λ q other less some. elim (cases_Bool (gone other)) [
-      | inl t ↦ absurd (false≢true (sym (ap is_some (value_gone _ gone other t)) ∙ some))
+      | inl t ↦ absurd (false≢true (sym (ap is_some (value_gone _ _ _ t)) ∙ some))
       | inr t ↦
-          let bound = is.runs.apart q other less (sym (ap is_some (value_left _ gone other t)) ∙ some) in
+          let bound = is.runs.apart q other less (sym (ap is_some (value_left _ _ _ t)) ∙ some) in
           omega (arith, bound, fewer_slots old gone q)
     ];
   };
   attributed = λ q. elim (cases_Bool (gone q)) [
-    | inl t ↦ ap is_some (value_gone _ gone q t) ∙ sym (ap is_some (value_gone _ gone q t))
-    | inr t ↦ ap is_some (value_left _ gone q t) ∙ is.attributed q ∙ sym (ap is_some (value_left _ gone q t))
+    | inl t ↦ ap is_some (value_gone _ _ q t) ∙ sym (ap is_some (value_gone _ _ q t))
+    | inr t ↦ ap is_some (value_left _ _ q t) ∙ is.attributed q ∙ sym (ap is_some (value_left _ _ q t))
   ];
   sized = λ q. elim (cases_Bool (gone q)) [
-    | inl t ↦ C.sized_is refl (ap C.bytes_in (value_gone _ gone q t)) tt
-    | inr t ↦ C.sized_is (ap slots_in (value_left _ gone q t)) (ap C.bytes_in (value_left _ gone q t)) (is.sized q)
+    | inl t ↦ C.sized_is refl (ap C.bytes_in (value_gone _ _ q t)) tt
+    | inr t ↦ C.sized_is (ap slots_in (value_left _ _ q t)) (ap C.bytes_in (value_left _ _ q t)) (is.sized q)
   ];
 }
 

@@ -30,10 +30,10 @@ same_spared heap q = left_alone heap heap q refl refl
 
 -- one that isn't among those that go
 pub spared_without : (gone : ℕ → Bool) (heap : Heap) (q : ℕ) → gone q ≡ false → IsSpared heap (C.heap_without gone heap) q
-spared_without gone heap q t = left_alone heap (C.heap_without gone heap) q (stays _) (stays _)
+spared_without gone heap q t = left_alone heap (C.heap_without _ heap) q (stays _) (stays _)
   where
     stays : {X : Type 0} (m : C.FinMap C.nat_cmp X) → finmap.get (finmap.retain_keys m (λ q. not (gone q))) q ≡ finmap.get m q
-    stays m = retained m gone q ∙ ap (λ b. cond (not b) (finmap.get m q) None) t
+    stays m = retained m _ q ∙ ap (λ b. cond (not b) (finmap.get m q) None) t
 
 -- One after another.
 
@@ -60,12 +60,12 @@ spared_then old next new q a b = (kept_then old next new q a.0 b.0, λ pinned. s
 
 pub filled_spared : (old : Heap) (slot : ℕ) (bytes : List ℕ) (new : Heap) → IsHeap old → Fills old slot bytes true new → (q : ℕ) → q ≢ slot → IsSpared old new q
 filled_spared old slot bytes new is f q d = (
-  filled_other old slot bytes new f is q d,
-  λ pinned. ((C.address_law old new is settled.0).0 slot C.revival_options settled.1 (C.with_newest slot settled.1) settled.2).pinned q apart pinned,
+  filled_other old _ _ new f is q d,
+  λ pinned. ((C.address_law old new is settled.0).0 slot C.revival_options settled.1 (C.with_newest _ settled.1) settled.2).pinned q apart pinned,
 )
   where
     settled : (k : ℕ) × (o : C.Object) × C.Settles old (C.stays_for slot C.revival_options) (C.with_ordered (C.discarded old k (Some slot)) slot o (C.with_newest slot o)) new
-    settled = settled_so old slot bytes new f
+    settled = settled_so old _ _ new f
 
     apart : Some slot ≢ Some q
     apart e = let same : slot ≡ q = cc in d (sym same)

@@ -69,7 +69,7 @@ named_slot old handle x = turn _
 
     turn : (p : Option ℕ) → ◌≡◌ {A = Option (ℕ × Load)} (elim p [ None ↦ None | Some slot ↦ option_map (λ load. (slot, load)) (finmap.get old.loads slot) ]) (Some x) → p ≡ Some x.0
     turn None e = cc
-    turn (Some slot) e = by_load slot _ e
+    turn (Some slot) e = by_load _ _ e
 
 -- a lock of a handle moves nothing
 lock_contents : (old : C.Handles) (handle : ℕ) → C.KeepsContents old (global_lock old handle).1

@@ -24,7 +24,7 @@ resource_load old handle x = turn _
 
     turn : (p : Option ℕ) → ◌≡◌ {A = Option (ℕ × Load)} (elim p [ None ↦ None | Some slot ↦ C.option_map (λ load. (slot, load)) (finmap.get old.loads slot) ]) (Some x) → finmap.get old.loads x.0 ≡ Some x.1
     turn None e = cc
-    turn (Some slot) e = by_load slot _ refl e
+    turn (Some slot) e = by_load _ _ refl e
 
 -- another count of loads, and of uses
 abbrev pub with_count : LoadingWorld → ℕ → Load → ℕ → LoadingWorld

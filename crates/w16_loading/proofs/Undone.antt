@@ -57,7 +57,7 @@ same_owned w xs q out = ap C.owned_in ((fold_named w xs).attributes q out)
 -- What isn't there needn't go.
 pub kept_all : (gone : ℕ → Bool) (ids : List ℕ) → ((q : ℕ) → Member q ids → gone q ≡ false) → filter (λ q. not (gone q)) ids ≡ ids
 kept_all gone [] out = refl
-kept_all gone (q ∷ ids) out = ap (λ b. cond {A = List ℕ} (not b) (q ∷ filter (λ q. not (gone q)) ids) (filter (λ q. not (gone q)) ids)) (out q (inl refl)) ∙ ap (λ r. q ∷ r) (kept_all gone ids (λ p m. out p (inr m)))
+kept_all gone (q ∷ ids) out = ap (λ b. cond {A = List ℕ} (not b) (q ∷ filter (λ q. not (gone q)) ids) (filter (λ q. not (gone q)) ids)) (out q (inl refl)) ∙ ap (λ r. q ∷ r) (kept_all _ ids (λ p m. out p (inr m)))
 
 pub retained : {X : Type 0} (m : C.FinMap C.nat_cmp X) (gone : ℕ → Bool) (q : ℕ) → finmap.get (finmap.retain_keys m (λ q. not (gone q))) q ≡ cond (not (gone q)) (finmap.get m q) None
 retained m gone q = C.get-retain_keys m (λ q. not _) q (λ x t. ap (λ k. not (gone k)) (sym (C.nat_cmp-IsAntisymmetric q x t)))
@@ -108,11 +108,11 @@ module _ (old : LoadingWorld) (is : C.AreHandles old.handles) (slots : List ℕ)
       attributes = unchanged old.handles.attributes new.handles.attributes (λ q t. none (finmap.get old.handles.attributes q) (is.attributed q ∙ ap is_some (no_object q t))) (λ q t. n.attributes q (out q t))
 
 free_objects : (old : LoadingWorld) → C.AreHandles old.handles → (slots : List ℕ) → All (IsFreeSlot old.handles) slots → (q : ℕ) → Member q slots → object_at old.handles.heap q ≡ None
-free_objects old is slots free q m = C.unused_slot _ is q (C.Each-at (IsFreeSlot old.handles) slots (C.Each-from_All _ slots free) q m)
+free_objects old is slots free q m = C.unused_slot _ is q (C.Each-at (IsFreeSlot old.handles) _ (C.Each-from_All _ _ free) q m)
 
 pub taken_back_law : C.TakenBackLaw
-taken_back_law old slots xs is free inside = taken_away old is slots (free_objects old is slots free) xs
-    (λ x m. C.is_member-true x.0 slots (C.Each-at (λ x. is_member x.0 slots ≡ true) xs (C.Each-from_All (λ x. is_member x.0 slots ≡ true) xs inside) x m))
+taken_back_law old slots xs is free inside = taken_away old is _ (free_objects old is _ free) xs
+    (λ x m. C.is_member-true x.0 _ (C.Each-at (λ x. is_member x.0 slots ≡ true) xs (C.Each-from_All (λ x. is_member x.0 slots ≡ true) xs inside) x m))
     _ (fold_named old xs)
 
 pub undone_law : C.UndoneLaw

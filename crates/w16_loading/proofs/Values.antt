@@ -17,8 +17,8 @@ pub values_law : C.ValuesLaw
 values_law f g m (C.Internal number offset) same = refl
 values_law f g m (C.InternalEntry ordinal) same = refl
 values_law f g m (C.Import reference ordinal) same = let h = imported m reference in
-    by_ordinal (imported m _) ordinal (f _) ∙ ap (λ p. address_by_ordinal (imported m reference) p ordinal) (same _) ∙ sym (by_ordinal (imported m _) ordinal (g _))
-values_law f g m (C.ImportName reference name) same = by_name name _ ∙ ap (λ p. address_by_name p name) (same _) ∙ sym (by_name name _)
+    by_ordinal _ ordinal (f _) ∙ ap (λ p. address_by_ordinal (imported m reference) p ordinal) (same _) ∙ sym (by_ordinal _ ordinal (g _))
+values_law f g m (C.ImportName reference name) same = by_name _ _ ∙ ap (λ p. address_by_name p name) (same _) ∙ sym (by_name _ _)
 values_law f g m C.System same = refl
 
 -- modules put with other values

@@ -15,7 +15,7 @@ discards_world : (old : LoadingWorld) → IsLoadingWorld old → (heap : Heap) �
 discards_world old is heap d = world_stays old is (record old.handles { heap = heap })
     (C.other_handles old.handles is.handles heap d.sound (ap (λ h. h.lo) d.rest) (ap (λ h. h.grain) d.rest) (λ q. lost old.handles.heap heap q (d.objects q))
     (λ q. kept_sized old.handles.heap heap q _ (d.objects q) (is.handles.sized q))) (λ q. refl)
-    (λ q kind size code h. left_owned old.handles.heap heap q kind size (kept_left old.handles.heap heap q (object_there old q kind size code h) (d.objects q)) h.object)
+    (λ q kind size code h. left_owned old.handles.heap heap q _ _ (kept_left old.handles.heap heap q (object_there old q _ _ _ h) (d.objects q)) h.object)
 
 module _ (answers : Answers) (are : HoldFiles answers) (old : LoadingWorld) (is : IsLoadingWorld old) where
   fulfilled : (closure : C.Closure) → IsClosure answers (C.around old).named closure → (answer : C.Answer) (new : LoadingWorld) → C.Fulfils (C.GivesFrom Fills answers) old closure answer new → IsLoadingWorld new
@@ -44,11 +44,11 @@ module _ (answers : Answers) (are : HoldFiles answers) (old : LoadingWorld) (is 
 
 ours : (command : LoadingCommand) → C.IsLoadingCommand command → Writes (λ slice. All (λ b. b < 256) slice) command
 ours (LoadingCommand.OfFar (FarCommand.Write pointer bytes)) known = known
-ours (LoadingCommand.OfFar (FarCommand.Fill pointer count byte)) known = C.All-repeated count byte known
+ours (LoadingCommand.OfFar (FarCommand.Fill pointer count byte)) known = C.All-repeated _ _ known
 ours command known = tt
 
 pub keeps_worlds_law : (honest : Type 0) → C.KeepsWorldsLaw honest
 keeps_worlds_law honest format old new command reply is known step =
     let answers = told honest format old.files old.failures new.failures in
-    recounted (record new { failures = old.failures }) (family (C.FetchesFrom Fills _) (C.LoadsFrom Fills answers) (λ slice. All (λ b. b < 256) slice) old IsLoadingWorld
+    recounted (record new { failures = old.failures }) (family _ _ (λ slice. All (λ b. b < 256) _) old _
     (parts _ (λ name read h. h.0) old is) (record new { failures = old.failures }) reply command (ours _ known) step.step) _

@@ -17,7 +17,7 @@ pub use Rattle.w16_lru.specs.Representation.{IsRing, LeadBack, Leads, follow, id
 pub use Rattle.w16_lru.specs.Uses.{AreUses, Uses, at_end}
 pub use Rattle.w16_lru.specs.declared.End.{End}
 pub use Rattle.w16_lru.specs.declared.End.TheVariants.{Newest, Oldest}
-pub use Rattle.w16_model.proofs.Common.{All-append, All-cons, All-nil, AllPairs, Bool, List, [], ap, arith, cases_eq, common_steps, cond, drop, eq-eqb, eqb-true, false, false≢true, get_or, inl, inr, is_member}
+pub use Rattle.w16_model.proofs.Common.{All-append, All-cons, All-nil, AllPairs, Bool, List, [], ap, arith, cases_eq, cond, drop, eq-eqb, eqb-true, false, false≢true, get_or, inl, inr, is_member}
 pub use Rattle.w16_model.proofs.Common.{is_some, length, not, range_with_len, refl, slice_get, subst, suc, sym, true, without, zero, ℕ, ◌&&◌, ◌++◌, ◌+◌, ◌-◌, ◌<◌, ◌==◌, ◌||◌, ◌∙◌, ◌∷◌, ◌≡◌, ◌≢◌, ◌≤◌, ◌⊎◌}
 pub use Rattle.w16_model.proofs.Gaps.{Each-from_All, EachPair, EachPair-from_AllPairs}
 pub use Rattle.w16_model.proofs.Orders.{member_gone, member_without, newest_differ, oldest_differ, without_absent}

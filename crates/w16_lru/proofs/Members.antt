@@ -17,7 +17,7 @@ member_test id (x ∷ ids) = rw (same_test x id) (ap (λ b. (id == x) || b) (mem
 -- one fewer without a member
 pub fewer : (x : ℕ) (ids : List ℕ) → C.EachPair (λ a b. a ≡ b → ⊥) ids → is_member x ids ≡ true → length (without x ids) + 1 ≡ length ids
 fewer x [] apart there = absurd (false≢true there)
-fewer x (y ∷ ids) apart there = turn (y == x) refl (fewer x ids apart.1)
+fewer x (y ∷ ids) apart there = turn _ refl (fewer x ids apart.1)
   where
     turn : (t : Bool) → (y == x) ≡ t → (is_member x ids ≡ true → length (without x ids) + 1 ≡ length ids) → length (cond {A = List ℕ} (not t) (y ∷ without x ids) (without x ids)) + 1 ≡ length (y ∷ ids)
     turn true e rest =
@@ -27,7 +27,7 @@ fewer x (y ∷ ids) apart there = turn (y == x) refl (fewer x ids apart.1)
 
 pub member_below : (x n : ℕ) (ids : List ℕ) → Each (λ q. q < n) ids → is_member x ids ≡ true → x < n
 member_below x n [] below there = absurd (false≢true there)
-member_below x n (y ∷ ids) below there = turn (y == x) refl (member_below x n ids below.1)
+member_below x n (y ∷ ids) below there = turn _ refl (member_below x n ids below.1)
   where
     turn : (t : Bool) → (y == x) ≡ t → (is_member x ids ≡ true → x < n) → x < n
     turn true e rest = subst (λ q. q < n) (C.eqb-true y x e) below.0
@@ -36,5 +36,5 @@ member_below x n (y ∷ ids) below there = turn (y == x) refl (member_below x n 
 -- there are no more ids than numbers
 pub few : (uses : Uses) → C.AreUses uses → length uses.ids ≤ uses.cap
 few uses are =
-    C.length-le_from_distinct_below uses.ids uses.cap (C.IsDistinct-from_AllPairs C.Decides-eqb uses.ids are.apart)
-    (λ q there. member_below q uses.cap uses.ids (C.Each-from_All (λ k. k < uses.cap) uses.ids are.below) (sym (member_test q uses.ids) ∙ there))
+    C.length-le_from_distinct_below _ _ (C.IsDistinct-from_AllPairs C.Decides-eqb _ are.apart)
+    (λ q there. member_below q _ uses.ids (C.Each-from_All (λ k. k < uses.cap) uses.ids are.below) (sym (member_test q _) ∙ there))

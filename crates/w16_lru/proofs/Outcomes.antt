@@ -8,13 +8,13 @@ use proofs.Members.{fewer, member_below, few}
 use proofs.Rings.{ring-out, ring-oldest, ring-newest}
 use proofs.Renamed.{relinked, none_renamed, ring-renamed}
 use Rattle.std.specs.List.{AllByRecursion as Each}
-use Rattle.std.proofs.{Common.length-set, Common.set, lemmas.List.length-map}
+use Rattle.std.proofs.{Common.length-set, lemmas.List.length-map}
 use Rattle.w16_lru.specs.Uses.{renamed}
 
 -- the ids of a ring are followed along its links
 pub kept : (cap members : ℕ) (after before ids : List ℕ) → IsRing cap after before ids → length ids ≡ members → IsRing cap after before (ids_of cap after members)
 kept cap members after before ids ring e =
-    subst (IsRing cap after before) (sym (M.follow-leads after (slice_index after cap) ids cap ring.around) ∙ ap (ids_of cap after) e) ring
+    subst (IsRing cap after before) (sym (M.follow-leads after _ ids cap ring.around) ∙ ap (ids_of cap after) e) ring
 
 pub viewed : (cap members : ℕ) (after before ids : List ℕ) → IsRing cap after before ids → length ids ≡ members → (let are : Uses = record { cap = cap; ids = ids } in uses_of cap after members ≡ are)
 viewed cap members after before ids ring e =
@@ -48,14 +48,14 @@ exchanged_after table seen new p x same e =
 pub exchanged_before : {Z : Type 0} (table : Vec ℕ Z) (links seen_links seen new : List ℕ) (p x : ℕ) → seen_links ≡ links → seen ≡ table.items
     → new ≡ swap seen (slice_index seen_links p) (slice_index seen_links x) → (with_items table new).items ≡ swap table.items (slice_index links p) (slice_index links x)
 exchanged_before table links seen_links seen new p x alike same e =
-    exchanged_after table seen new (slice_index seen_links p) (slice_index seen_links x) same e
+    exchanged_after table seen new _ _ same e
     ∙ ap (λ l. swap table.items (slice_index l p) (slice_index l x)) alike
 
 -- the items of a table in which a number takes another's place
 pub relinked_items : {Z : Type 0} (table : Vec ℕ Z) (seen new : List ℕ) (from id to : ℕ) → seen ≡ table.items → new ≡ relinked seen from id to → (with_items table new).items ≡ relinked table.items from id to
 relinked_items table seen new from id to same e =
-    let long = ap length e ∙ length-set (set (set seen to (slice_index seen id)) from to) id id
-    ∙ length-set (set seen to (slice_index seen id)) from to ∙ length-set seen to (slice_index seen id) ∙ ap length same ∙ sym table.ok.0 in
+    let long = ap length e ∙ length-set _ id id
+    ∙ length-set _ from to ∙ length-set seen to _ ∙ ap length same ∙ sym table.ok.0 in
     C.with_items_is table new long ∙ e ∙ ap (λ l. relinked l from id to) same
 
 module _ (cap members : ℕ) (after before : List ℕ) (now : Uses) (ring : IsRing cap after before (ids_of cap after members)) (view : uses_of cap after members ≡ now) where

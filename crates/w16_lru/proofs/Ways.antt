@@ -7,22 +7,22 @@ pub follow-leads : (after : List ℕ) (from : ℕ) (ids : List ℕ) (end : ℕ) 
 follow-leads after from [] end way = refl
 follow-leads after from (x ∷ ids) end way =
     (λ i. way.0 i ∷ follow (length ids) after (slice_index after (way.0 i)))
-    ∙ ap (λ l. x ∷ l) (follow-leads after (slice_index after x) ids end way.1)
+    ∙ ap (λ l. x ∷ l) (follow-leads after _ ids end way.1)
 
 pub length-follow : (n : ℕ) (after : List ℕ) (from : ℕ) → length (follow n after from) ≡ n
 length-follow zero after from = refl
-length-follow (suc n) after from = ap suc (length-follow n after (slice_index after from))
+length-follow (suc n) after from = ap suc (length-follow n after _)
 
 pub follow-next : (n : ℕ) (after : List ℕ) (from k id : ℕ) → suc k < n → slice_get (follow n after from) k ≡ Some id → slice_get (follow n after from) (suc k) ≡ Some (slice_index after id)
 follow-next zero after from k id lt at = absurd (omega arith)
 follow-next (suc zero) after from k id lt at = absurd (omega arith)
 follow-next (suc (suc n)) after from zero id lt at = let e : from ≡ id = cc in ap (λ (q : ℕ). Some (slice_index after q)) e
-follow-next (suc (suc n)) after from (suc k) id lt at = follow-next (suc n) after (slice_index after from) k id (omega arith) at
+follow-next (suc (suc n)) after from (suc k) id lt at = follow-next (suc n) after _ k id (omega arith) at
 
 -- what stands nowhere among ids
 pub each_other : (x : ℕ) (ids : List ℕ) → is_member x ids ≡ false → Each (λ q. q ≢ x) ids
 each_other x [] none = tt
-each_other x (y ∷ ids) none = turn (y == x) refl (each_other x ids)
+each_other x (y ∷ ids) none = turn _ refl (each_other x ids)
   where
     turn : (t : Bool) → (y == x) ≡ t → (is_member x ids ≡ false → Each (λ q. q ≢ x) ids) → Each (λ q. q ≢ x) (y ∷ ids)
     turn true e rest = absurd (true≢false (sym (ap (λ b. b || is_member x ids) e) ∙ none))
@@ -52,7 +52,7 @@ slice_get-behind ids i = first_behind ids i ∙ ap (slice_get ids) (let e : suc 
 pub leads-behind : (after : List ℕ) (from : ℕ) (ids : List ℕ) (end i id : ℕ) → Leads after from ids end → slice_get ids i ≡ Some id → Leads after (slice_index after id) (drop (suc i) ids) end
 leads-behind after from [] end i id way at = cc
 leads-behind after from (x ∷ ids) end zero id way at = let e : x ≡ id = cc in subst (λ q. Leads after (slice_index after q) ids end) e way.1
-leads-behind after from (x ∷ ids) end (suc i) id way at = leads-behind after (slice_index after x) ids end i id way.1 at
+leads-behind after from (x ∷ ids) end (suc i) id way at = leads-behind after _ ids end i id way.1 at
 
 -- a way from a number that is linked to itself goes nowhere
 pub leads-stuck : (after : List ℕ) (x : ℕ) (ids : List ℕ) (end : ℕ) → slice_index after x ≡ x → Leads after x ids end → x ≡ end
@@ -62,7 +62,7 @@ leads-stuck after x (y ∷ ids) end self way =
 
 pub leads-none : (after : List ℕ) (from : ℕ) (ids : List ℕ) (end x : ℕ) → slice_index after x ≡ x → x ≢ end → Leads after from ids end → is_member x ids ≡ false
 leads-none after from [] end x self other way = refl
-leads-none after from (y ∷ ids) end x self other way = turn (y == x) refl (leads-none after (slice_index after y) ids end x self other way.1)
+leads-none after from (y ∷ ids) end x self other way = turn _ refl (leads-none after _ ids end x self other way.1)
   where
     turn : (t : Bool) → (y == x) ≡ t → is_member x ids ≡ false → is_member x (y ∷ ids) ≡ false
     turn true e rest =

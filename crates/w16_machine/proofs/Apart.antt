@@ -14,12 +14,12 @@ is_block heap q at bytes o placed there has = record { object = o; bytes = bytes
 
 apart_in : (heap : Heap) → IsHeap heap → AreApart heap
 apart_in heap is q r from to bytes others differ placed has beside had =
-    let (o, there, own) = object_of heap q bytes has in
-    let (p, near, next) = object_of heap r others had in
-    two_placed heap is (block_at q from bytes o) (block_at r to others p) (is_block heap q from bytes o placed there own) (is_block heap r to others p beside near next) (λ e. differ (ap (λ x. x.id) e))
+    let (o, there, own) = object_of heap q _ has in
+    let (p, near, next) = object_of heap r _ had in
+    two_placed _ is (block_at q _ _ o) (block_at r to _ p) (is_block _ q _ _ o placed there own) (is_block _ r to _ p beside near next) (λ e. differ (ap (λ x. x.id) e))
 
 pub apart_law : ApartLaw
 apart_law w is = (
   apart_in w.loading.handles.heap is.loading.handles.heap,
-  λ slot at e. apart_in (heap_of at) (heap_here w is.heaps at (local_there w slot at e).0),
+  λ slot at e. apart_in (heap_of at) (heap_here w is.heaps at (local_there w _ at e).0),
 )

@@ -19,8 +19,8 @@ outcome_ds old new command answer (inr (inr (at, c, inr (inl acts)))) = ap (λ w
 outcome_ds old new command answer (inr (inr (at, c, inr (inr g)))) = ap (λ w. w.ds) g.grows.grown.rest
 
 local_ds : (old new : World) (command : LocalCommand) (reply : Reply) → LocalStep old command reply new → ((selector : ℕ) → OfLocals command ≡ OfLocals (DS selector) → ⊥) → new.ds ≡ old.ds
-local_ds old new (DS selector) Done step other = absurd (other selector refl)
-local_ds old new command (Word answer) step other = outcome_ds old new command answer (outcome old command answer new step)
+local_ds old new (DS selector) Done step other = absurd (other _ refl)
+local_ds old new command (Word answer) step other = outcome_ds old new command answer (outcome old _ _ new step)
 local_ds old new command reply step other = absurd step
 
 -- A step of loading leaves each local heap that stays its table.
@@ -154,11 +154,11 @@ pub step_spares_law : (honest : Type 0) → StepSparesLaw honest
 step_spares_law honest format old new (OfLoading command) reply is step = record {
   ds = λ other. ap (λ w. w.ds) step.1;
   bytes = record {
-    objects = λ q there other. bystanders_law honest format old.loading new.loading command reply q is.loading step.0 there other;
-    local_objects = λ slot at after q o e f there other. inl ((stays_same honest format old new command reply is step slot at after e f).objects q ∙ ap (option_map but_bytes) there);
+    objects = λ q there other. bystanders_law honest format _ _ command reply q is.loading step.0 there other;
+    local_objects = λ slot at after q o e f there other. inl ((stays_same honest format old new command reply is step slot at after e f).objects q ∙ ap (option_map _) there);
   };
   addresses = record {
-    objects = λ q pinned unmoved. pinned_law honest format old.loading new.loading command reply q is.loading step.0 pinned unmoved;
+    objects = λ q pinned unmoved. pinned_law honest format _ _ command reply q is.loading step.0 pinned unmoved;
     local_objects = λ slot at after q o e f there pinned unmoved. stands_same (heap_of at) (heap_of after) q (ap (λ h. finmap.get h.places q) (stays_same honest format old new command reply is step slot at after e f).rest);
   };
 }
@@ -175,5 +175,5 @@ step_spares_law honest format old new (OfLocals command) reply is step = record 
 }
 
 pub run_spares_law : (honest : Type 0) → RunSparesLaw honest
-run_spares_law honest format old new events is known run = (run_each (Step honest format) IsWorld (λ now event. Spares now event.command event.after)
-    (λ now event is known step. (step_spares_law honest format now event.after event.command event.reply is step, world_law honest format now event.after event.command event.reply is known step)) old new events is known run).0
+run_spares_law honest format old new events is known run = (run_each _ _ (λ now event. Spares now _ _)
+    (λ now event is known step. (step_spares_law honest format now _ _ _ is step, world_law honest format now _ _ _ is known step)) old new _ is known run).0

@@ -23,12 +23,12 @@ pub use Rattle.w16_loading.proofs.KeptWorlds.{IsOwned, world_stays}
 pub use Rattle.w16_loading.proofs.WorldLaw.{keeps_worlds_law}
 pub use Rattle.w16_loading.specs.Families.{ResizesStep}
 pub use Rattle.w16_loading.specs.Modules.{with_handles}
-pub use Rattle.w16_loading.specs.Law.{FarReplies, far_answer_in}
+pub use Rattle.w16_loading.specs.Law.{FarReplies}
 pub use Rattle.w16_loading.specs.Replies.Reply.{Done}
 pub use Rattle.w16_loading.specs.declared.FetchFault.{FetchFault}
 pub use Rattle.w16_machine.specs.Bystanders.{IsLocalAbout, IsLocalSpared, RunSparesLaw, StepSparesLaw}
 pub use Rattle.w16_machine.specs.Fewest.{FewestLaw, IsFewest}
-pub use Rattle.w16_machine.specs.Law.{AreLocalHeaps, AreNamed, EmptyLaw, FilesLaw, IsCommand, IsLocalIn, IsWorld, IsWorldOfFiles, OnHandles, RunFilesLaw, RunWorldLaw, WorldLaw, empty_world}
+pub use Rattle.w16_machine.specs.Law.{AreLocalHeaps, AreNamed, EmptyLaw, FilesLaw, IsCommand, IsLocalIn, IsWorld, OnHandles, RunFilesLaw, RunWorldLaw, WorldLaw, empty_world}
 pub use Rattle.w16_machine.specs.Local.{Acts, Becomes, Beginning, IsLocalTable, IsLowestFree, LocalHeap, LocalObject, Stays, beginning, beginning_in, current_heap, has_range, heap_of, id_at}
 pub use Rattle.w16_machine.specs.Local.{id_named, is_name, is_range, left_in, local_in, local_of, name_at, name_of, new_table, object_named, range_in, rounded_down, rounded_up, segment_bytes, selector_or_ds, with_local, with_table}
 pub use Rattle.w16_machine.specs.LocalCalls.{AllocatesIn, AllocatesObject, Answers, CompactsIn, DiscardsObject, EntersObject, GivesUp, HasNoEntry, HasNoRoom, IsEmptyFixed, IsRefusedAlloc, Leaves, LocalCommand, LocalInits, LocalStep}
@@ -43,7 +43,7 @@ pub use Rattle.w16_machine.specs.LocalStays.{HasSamePlaces, HeapsLaw, LocalSameP
 pub use Rattle.w16_machine.specs.Machine.{Command, Event, Run, Step, after_loading}
 pub use Rattle.w16_machine.specs.Machine.Command.{OfLoading, OfLocals}
 pub use Rattle.w16_machine.specs.World.{World}
-pub use Rattle.w16_machine.specs.declared.local.TheConstants.{LAST_LOCAL_END, LMEM_DISCARDABLE, LMEM_MODIFY, LMEM_MOVEABLE, LMEM_NOCOMPACT, LOCAL_ENTRIES, LOCAL_GRAIN}
+pub use Rattle.w16_machine.specs.declared.local.TheConstants.{LAST_LOCAL_END, LMEM_MODIFY, LMEM_MOVEABLE, LMEM_NOCOMPACT, LOCAL_ENTRIES, LOCAL_GRAIN}
 pub use Rattle.w16_model.proofs.Absence.{discard_absent, discard_is}
 pub use Rattle.w16_model.proofs.CallOrders.{allocated, compacted, stays, touched_rest}
 pub use Rattle.w16_model.proofs.Common.{Answer, AreResized, Bytes, Enters, Fault, GlobalAlloc, GlobalCompact, HandleStep, IsCountedBy, IsMultiple, IsSound, IsTable, LacksPlace, LacksRoom, MakesRoom, Misses, MovesLittle, OnlyLeave, OthersStand, Read}

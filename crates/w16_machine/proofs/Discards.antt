@@ -12,18 +12,18 @@ asked honest format old event c step = subst (λ asked. Step honest format old a
 
 told : (honest : Type 0) (format : Format) (old : World) (event : Event) {command : Command} {reply : Reply} → event.command ≡ command → event.reply ≡ reply → Step honest format old event.command event.reply event.after
     → Step honest format old command reply event.after
-told honest format old event {command} c r step = subst (λ answer. Step honest format old command answer event.after) r (asked honest format old event c step)
+told honest format old event {command} c r step = subst (λ answer. Step honest format old command answer event.after) r (asked _ format old event c step)
 
 pub step_fewest : (honest : Type 0) (format : Format) (old : World) (event : Event) → C.IsWorld old → Step honest format old event.command event.reply event.after → C.IsFewest old event
 step_fewest honest format old event is step = record {
-  alloc = λ flags size handle c r. C.global_alloc_law old.loading.handles event.after.loading.handles flags size handle is.heaps.handles
-      (call_replies honest format old.loading event.after.loading (C.GlobalAlloc flags size) (Word handle) (told honest format old event c r step).0);
-  realloc = λ handle size flags answer c r. C.resize_fewest_law old.loading.handles event.after.loading.handles handle size flags answer is.heaps.handles
-      (resize_replies honest format old.loading event.after.loading (C.GlobalReAlloc handle size flags) (Word answer) (told honest format old event c r step).0);
-  compact = λ size answer c r. C.global_compact_law old.loading.handles event.after.loading.handles size answer is.heaps.handles
-      (call_replies honest format old.loading event.after.loading (C.GlobalCompact size) (Dword answer) (told honest format old event c r step).0);
-  local_alloc = λ flags size answer at c r current. local_alloc_law old event.after flags size answer at is.heaps (told honest format old event c r step) current;
-  local_realloc = λ name size flags answer o c r named unmodified some. local_realloc_law old event.after name size flags answer o is.heaps (told honest format old event c r step) named unmodified some;
-  local_compact = λ size answer at c r current. local_compact_law old event.after size answer at is.heaps (told honest format old event c r step) current;
-  requests = λ command c. any_requests_fewest honest format old.loading event.after.loading command event.reply is.loading (asked honest format old event c step).0;
+  alloc = λ flags size handle c r. C.global_alloc_law _ _ _ _ _ is.heaps.handles
+      (call_replies honest format _ _ _ _ (told _ format old event c r step).0);
+  realloc = λ handle size flags answer c r. C.resize_fewest_law _ event.after.loading.handles _ _ _ _ is.heaps.handles
+      (resize_replies honest format _ _ _ _ (told _ format old event c r step).0);
+  compact = λ size answer c r. C.global_compact_law old.loading.handles event.after.loading.handles _ _ is.heaps.handles
+      (call_replies honest format _ _ _ _ (told _ format old event c r step).0);
+  local_alloc = λ flags size answer at c r current. local_alloc_law old _ _ _ _ at is.heaps (told honest format old _ c r step) current;
+  local_realloc = λ name size flags answer o c r named unmodified some. local_realloc_law old _ name _ _ _ o is.heaps (told honest format old _ c r step) named unmodified some;
+  local_compact = λ size answer at c r current. local_compact_law old event.after _ _ at is.heaps (told honest format old _ c r step) current;
+  requests = λ command c. any_requests_fewest honest format _ _ _ _ is.loading (asked _ format old event c step).0;
 }

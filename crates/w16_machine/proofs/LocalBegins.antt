@@ -18,17 +18,17 @@ pub record IsRangeOf (size start end : ℕ) (range : Span) : Type 0 where
 
 tested : (size start end : ℕ) → is_range size start end ≡ true → (4 ≤ start) × (end ≤ size) × (end ≤ 65536) × (rounded_up start < rounded_down end)
 tested size start end t =
-    let both = C.and_parts (nat_le 4 start && nat_le end (min size 65536)) (C.nat_lt (rounded_up start) (rounded_down end)) t in
-    let first = C.and_parts (nat_le 4 start) (nat_le end (min size 65536)) both.0 in
-    let under = C.leb-true end (min size 65536) first.1 in
-    (C.leb-true 4 start first.0, omega (arith, under), omega (arith, under), C.ltb-true (rounded_up start) (rounded_down end) both.1)
+    let both = C.and_parts _ _ t in
+    let first = C.and_parts _ _ both.0 in
+    let under = C.leb-true end _ first.1 in
+    (C.leb-true 4 start first.0, omega (arith, under), omega (arith, under), C.ltb-true _ _ both.1)
 
 test_of : (size start end : ℕ) → 4 ≤ start → end ≤ size → end ≤ 65536 → rounded_up start < rounded_down end → is_range size start end ≡ true
 test_of size start end low inside high some =
-    λ i. (C.le-leb 4 start low i && C.le-leb end (min size 65536) (omega arith) i) && C.lt-ltb (rounded_up start) (rounded_down end) some i
+    λ i. (C.le-leb 4 start low i && C.le-leb end (min size 65536) (omega arith) i) && C.lt-ltb _ _ some i
 
 range_tells : (size start end : ℕ) (range : Span) → range_in size start end ≡ Some range → IsRangeOf size start end range
-range_tells size start end range = turn (is_range size start end) refl
+range_tells size start end range = turn _ refl
   where
     turn : (b : Bool) → is_range size start end ≡ b → ◌≡◌ {A = Option Span} (cond b (Some (record { from = rounded_up start; to = rounded_down end })) None) (Some range) → IsRangeOf size start end range
     turn false t e = cc
@@ -36,7 +36,7 @@ range_tells size start end range = turn (is_range size start end) refl
         let mine : Span = record { from = rounded_up start; to = rounded_down end } in
         let same : mine ≡ range = cc in
         let h = tested size start end t in
-        subst (IsRangeOf size start end) same (record {
+        subst (IsRangeOf _ _ end) same (record {
           low = h.0;
           inside = h.1;
           high = h.2;
@@ -57,10 +57,10 @@ told_range size start end range is =
     down end hi m e le lt = omega (arith, e, le, lt)
 
     from : rounded_up start ≡ range.from
-    from = up start range.from is.from.0.0 is.from.0.1 is.from.1 is.from.2
+    from = up start _ _ is.from.0.1 is.from.1 is.from.2
 
     to : rounded_down end ≡ range.to
-    to = down end range.to is.to.0.0 is.to.0.1 is.to.1 is.to.2
+    to = down end _ _ is.to.0.1 is.to.1 is.to.2
 
 -- The beginning.
 module _ (w : World) (selector start end : ℕ) (b : Beginning) where
@@ -120,7 +120,7 @@ module _ (w : World) (selector start end : ℕ) (b : Beginning) where
       turn (Some bytes) h = ap (option_map (λ (range : Span). let x : Beginning = record { slot = b.slot; range = range } in x)) (told_range (length bytes) start end b.range (record { low = is.low; inside = h; high = is.high; from = is.from; to = is.to; some = is.some }))
 
 pub begin_law : C.BeginLaw
-begin_law w selector start end b = (begins w selector start end b, may_begin w selector start end b)
+begin_law w selector start end b = (begins w _ _ end b, may_begin w _ _ end b)
 
 -- The new heap.
 
@@ -134,7 +134,7 @@ no_entry (suc n) (suc q) = no_entry n q
 
 nothing_by_id : (give : ℕ → Entry → C.Object) (n id : ℕ) → by_id give id (C.replicate n none) ≡ []
 nothing_by_id give zero id = refl
-nothing_by_id give (suc n) id = nothing_by_id give n (id + 1)
+nothing_by_id give (suc n) id = nothing_by_id _ n _
 
 pub new_heap_law : C.NewHeapLaw
 new_heap_law range bytes = λ i. record (C.heap_in (new_table range) bytes) { objects = finmap.from_entries (nothing_by_id (λ id e. record { kind = e.kind; locks = e.locks; bytes = None }) LOCAL_ENTRIES 0 i) }

@@ -11,7 +11,7 @@ use Rattle.std.specs.FinMap as finmap
 -- the heap that was done something in is the current one
 in_place : (P : Heap → Type 0) (new : World) (slot : ℕ) (after mine : LocalHeap) → local_in new slot ≡ Some after → IsThere new mine → mine.slot ≡ slot → P (heap_of mine) → P (heap_of after)
 in_place P new slot after mine e now placed holds =
-    let both : ◌≡◌ {A = Option LocalHeap} (Some mine) (Some after) = sym (there_local new mine now) ∙ ap (local_in new) placed ∙ e in
+    let both : ◌≡◌ {A = Option LocalHeap} (Some mine) (Some after) = sym (there_local new _ now) ∙ ap (local_in new) placed ∙ e in
     let is_after : mine ≡ after = cc in
     subst (λ h. P (heap_of h)) is_after holds
 
@@ -25,11 +25,11 @@ grown_becomes old is at c command new P made answer after e g =
     let l = g.grows.lengthens in
     let mine = C.longer at size l.bytes in
     let next = C.with_longer old l.handles mine in
-    let now = grown_world old is at there (local_options g.flags) size g.grows.growth.served.longer l in
-    let here = grown_there old is at there (local_options g.flags) size g.grows.growth.served.longer l in
-    let same = longer_is old is at there (local_options g.flags) size g.grows.growth.served.longer l in
-    in_place P new at.slot after (record { slot = at.slot; table = g.grows.grown.table; bytes = g.grows.grown.bytes }) e (acted_there next new mine (IsMade (heap_of at) (heap_of mine) command answer) here g.grows.grown) refl
-    (made answer (heap_in g.grows.grown.table g.grows.grown.bytes) size (grow_asks command g.may) (subst C.IsHeap same (heap_here next now mine here))
+    let now = grown_world old is at there _ _ g.grows.growth.served.longer l in
+    let here = grown_there old is at there _ _ g.grows.growth.served.longer l in
+    let same = longer_is old is at there _ _ g.grows.growth.served.longer l in
+    in_place P new _ _ (record { slot = at.slot; table = g.grows.grown.table; bytes = g.grows.grown.bytes }) e (acted_there next new mine (IsMade _ _ _ _) here g.grows.grown) refl
+    (made _ _ size (grow_asks command g.may) (subst C.IsHeap same (heap_here _ now mine here))
     (subst (λ heap. IsMade (heap_of at) heap command answer (heap_in g.grows.grown.table g.grows.grown.bytes)) same g.grows.grown.acted))
 
 module _ (old : World) (at : LocalHeap) (c : current_heap old ≡ Some at) (P : Heap → Type 0) (same : P (heap_of at)) where
@@ -71,6 +71,6 @@ pub current_becomes : (old : World) (at : LocalHeap) → current_heap old ≡ So
     → ((next : Heap) → IsStepped (heap_of at) command next → P next) → ((answer : ℕ) (next : Heap) → IsRoomed (heap_of at) command answer next → P next)
     → ((answer : ℕ) (after : LocalHeap) → local_in new at.slot ≡ Some after → IsGrown old command answer new at → P (heap_of after))
     → (after : LocalHeap) → local_in new at.slot ≡ Some after → C.LocalStep old command reply new → P (heap_of after)
-current_becomes old at c (DS selector) Done new P same stepped roomed grown after e step = same_heap old at c P same after (sym (there_local old at (current_there old at c)) ∙ ap (λ w. local_in w at.slot) (sym step) ∙ e)
-current_becomes old at c command (Word answer) new P same stepped roomed grown after e step = called old at c P same command answer stepped (roomed answer) new (grown answer) after e (outcome old command answer new step)
+current_becomes old at c (DS selector) Done new P same stepped roomed grown after e step = same_heap old at c P same _ (sym (there_local old at (current_there old at c)) ∙ ap (λ w. local_in w at.slot) (sym step) ∙ e)
+current_becomes old at c command (Word answer) new P same stepped roomed grown after e step = called old at c P same command answer stepped (roomed _) new (grown _) _ e (outcome old _ _ new step)
 current_becomes old at c command reply new P same stepped roomed grown after e step = absurd step

@@ -17,7 +17,7 @@ found slot t b = elim t [ None ↦ None | Some t ↦ elim b [ None ↦ None | So
 
 -- the one in a slot is there
 pub local_there : (w : World) (slot : ℕ) (at : LocalHeap) → local_in w slot ≡ Some at → IsThere w at × (at.slot ≡ slot)
-local_there w slot at e = turn (finmap.get w.heaps slot) refl (segment_bytes w slot) refl e
+local_there w slot at e = turn _ refl _ refl e
   where
     inside : (t : Table) → finmap.get w.heaps slot ≡ Some t → (bytes : List ℕ) → segment_bytes w slot ≡ Some bytes → (l : Bool) → C.nat_le t.hi (length bytes) ≡ l
         → ◌≡◌ {A = Option LocalHeap} (cond l (Some (record { slot = slot; table = t; bytes = bytes })) None) (Some at) → IsThere w at × (at.slot ≡ slot)
@@ -25,33 +25,33 @@ local_there w slot at e = turn (finmap.get w.heaps slot) refl (segment_bytes w s
     inside t p bytes q true l e =
         let mine : LocalHeap = record { slot = slot; table = t; bytes = bytes } in
         let same : mine ≡ at = cc in
-        subst (λ h. IsThere w h × (h.slot ≡ slot)) same (record { table = p; bytes = q; inside = C.leb-true t.hi (length bytes) l }, refl)
+        subst (λ h. IsThere w h × (h.slot ≡ slot)) same (record { table = p; bytes = q; inside = C.leb-true _ _ l }, refl)
 
     turn : (t : Option Table) → finmap.get w.heaps slot ≡ t → (b : Option (List ℕ)) → segment_bytes w slot ≡ b → found slot t b ≡ Some at → IsThere w at × (at.slot ≡ slot)
     turn None p b q e = cc
     turn (Some t) p None q e = cc
-    turn (Some t) p (Some bytes) q e = inside t p bytes q (C.nat_le t.hi (length bytes)) refl e
+    turn (Some t) p (Some bytes) q e = inside t p _ q _ refl e
 
 -- and what is there is the one in its slot
 pub there_local : (w : World) (at : LocalHeap) → IsThere w at → local_in w at.slot ≡ Some at
 there_local w at is =
     ap (λ t. found at.slot t (segment_bytes w at.slot)) is.table ∙ ap (λ b. found at.slot (Some at.table) b) is.bytes
-    ∙ ap (λ l. cond {A = Option LocalHeap} l (Some at) None) (C.le-leb at.table.hi (length at.bytes) is.inside)
+    ∙ ap (λ l. cond {A = Option _} l (Some at) None) (C.le-leb _ _ is.inside)
 
 -- the current heap is there
 pub current_there : (w : World) (at : LocalHeap) → current_heap w ≡ Some at → IsThere w at
-current_there w at e = turn (C.slot_of_selector w.loading.handles w.ds) e
+current_there w at e = turn _ e
   where
     turn : (s : Option ℕ) → ◌≡◌ {A = Option LocalHeap} (elim s [ None ↦ None | Some slot ↦ local_in w slot ]) (Some at) → IsThere w at
     turn None e = cc
-    turn (Some slot) e = (local_there w slot at e).0
+    turn (Some slot) e = (local_there w _ at e).0
 
 abbrev with_id : LocalHeap → Option ℕ → Option LocalObject
 with_id at p = option_map (λ id. record { heap = at; id = id }) p
 
 -- a named object is in the current heap
 pub named_there : (w : World) (name : ℕ) (o : LocalObject) → C.object_named w name ≡ Some o → (current_heap w ≡ Some o.heap) × (id_named (heap_of o.heap) name ≡ Some o.id)
-named_there w name o e = turn (current_heap w) refl e
+named_there w name o e = turn _ refl e
   where
     by_id : (at : LocalHeap) → current_heap w ≡ Some at → (p : Option ℕ) → id_named (heap_of at) name ≡ p → with_id at p ≡ Some o → (current_heap w ≡ Some o.heap) × (id_named (heap_of o.heap) name ≡ Some o.id)
     by_id at c None p e = cc
@@ -62,7 +62,7 @@ named_there w name o e = turn (current_heap w) refl e
 
     turn : (c : Option LocalHeap) → current_heap w ≡ c → ◌≡◌ {A = Option LocalObject} (elim c [ None ↦ None | Some at ↦ with_id at (id_named (heap_of at) name) ]) (Some o) → (current_heap w ≡ Some o.heap) × (id_named (heap_of o.heap) name ≡ Some o.id)
     turn None c e = cc
-    turn (Some at) c e = by_id at c (id_named (heap_of at) name) refl e
+    turn (Some at) c e = by_id at c _ refl e
 
 -- A local heap of a world with such heaps.
 module _ (w : World) (is : C.AreLocalHeaps w) (at : LocalHeap) (there : IsThere w at) where
@@ -80,7 +80,7 @@ module _ (w : World) (is : C.AreLocalHeaps w) (at : LocalHeap) (there : IsThere 
 
 -- all bytes replaced by as many
 pub put_all : (bytes after : List ℕ) → length after ≡ length bytes → put_part bytes 0 after ≡ after
-put_all bytes after long = sym (C.take_all (length after) (put_part bytes 0 after) (omega (arith, C.length-put_part bytes 0 after (omega arith)))) ∙ C.part-put_part bytes 0 after (length after) refl (omega arith)
+put_all bytes after long = sym (C.take_all _ _ (omega (arith, C.length-put_part bytes 0 after (omega arith)))) ∙ C.part-put_part bytes 0 after _ refl (omega arith)
 
 -- A segment's bytes are replaced by as many.
 module _ (heap : Heap) (slot : ℕ) (o : Object) (there : object_at heap slot ≡ Some o) (bytes : List ℕ) (has : o.bytes ≡ Some bytes) (after : List ℕ) (long : length after ≡ length bytes) where
@@ -90,11 +90,11 @@ module _ (heap : Heap) (slot : ℕ) (o : Object) (there : object_at heap slot �
       ∙ ap (λ (b : Option (List ℕ)). Some (record o { bytes = b })) (ap (option_map (λ bytes. put_part bytes 0 after)) has ∙ ap Some (put_all bytes after long))
 
 pub segment_other : (heap : Heap) (slot : ℕ) (after : List ℕ) (q : ℕ) → q ≢ slot → object_at (C.after_write heap slot 0 after) q ≡ object_at heap q
-segment_other heap slot after q d = C.get-update_other heap.objects slot (λ o. record o { bytes = option_map (λ bytes. put_part bytes 0 after) o.bytes }) q d
+segment_other heap slot after q d = C.get-update_other _ _ (λ o. record o { bytes = option_map (λ bytes. put_part bytes 0 after) _ }) q d
 
 -- the object that has the bytes
 pub object_of : (heap : Heap) (slot : ℕ) (bytes : List ℕ) → C.bytes_at heap slot ≡ Some bytes → (o : Object) × (object_at heap slot ≡ Some o) × (o.bytes ≡ Some bytes)
-object_of heap slot bytes e = turn (object_at heap slot) refl e
+object_of heap slot bytes e = turn _ refl e
   where
     turn : (p : Option Object) → object_at heap slot ≡ p → C.bytes_in p ≡ Some bytes → (o : Object) × (object_at heap slot ≡ Some o) × (o.bytes ≡ Some bytes)
     turn None t e = cc
@@ -105,15 +105,15 @@ pub acted_there : (old new : World) (at : LocalHeap) (P : Heap → Type 0) → I
 acted_there old new at P there a =
     let o = object_of old.loading.handles.heap at.slot at.bytes there.bytes in
     record {
-      table = ap (λ w. finmap.get w.heaps at.slot) a.rest ∙ C.inserted_here old.heaps at.slot a.table at.slot refl;
-      bytes = ap (λ w. segment_bytes w at.slot) a.rest ∙ ap C.bytes_in (segment_after old.loading.handles.heap at.slot o.0 o.1 at.bytes o.2 a.bytes a.long);
+      table = ap (λ w. finmap.get w.heaps at.slot) a.rest ∙ C.inserted_here _ at.slot _ _ refl;
+      bytes = ap (λ w. segment_bytes w at.slot) a.rest ∙ ap C.bytes_in (segment_after old.loading.handles.heap _ o.0 o.1 _ o.2 _ a.long);
       inside = omega (arith, a.range.1, a.long, there.inside);
     }
 
 -- and after it became another with the same bytes
 pub became_there : (old new : World) (at : LocalHeap) (next : Heap) → IsThere old at → (b : C.Becomes old at next new) → IsThere new (record { slot = at.slot; table = b.table; bytes = at.bytes })
 became_there old new at next there b = record {
-  table = ap (λ w. finmap.get w.heaps at.slot) b.rest ∙ C.inserted_here old.heaps at.slot b.table at.slot refl;
+  table = ap (λ w. finmap.get w.heaps at.slot) b.rest ∙ C.inserted_here _ at.slot _ _ refl;
   bytes = ap (λ w. segment_bytes w at.slot) b.rest ∙ there.bytes;
   inside = omega (arith, b.range.1, there.inside);
 }

@@ -67,7 +67,7 @@ module _ (old : Handles) (selector offset : ℕ) where
       turn false = data_same slice
 
 far_same : (old new : Handles) (command : C.FarCommand) (answer : FarAnswer) → C.FarStep old command answer new → HasSamePlaces old new
-far_same old new (Read pointer count) answer step = subst (HasSamePlaces old) (sym step.1) (read_same old (selector_in pointer) (offset_in pointer) count)
+far_same old new (Read pointer count) answer step = subst (HasSamePlaces old) (sym step.1) (read_same old _ _ count)
 far_same old new (Write pointer bytes) answer step = subst (HasSamePlaces old) (sym step.1) (write_same old (selector_in pointer) (offset_in pointer) bytes)
 far_same old new (Fill pointer count byte) answer step = subst (HasSamePlaces old) (sym step.1) (write_same old (selector_in pointer) (offset_in pointer) (C.repeated count byte))
 
@@ -99,23 +99,23 @@ left_same (Some t) None after h e = absurd h
 left_same (Some t) (Some before) None h e = cc
 left_same (Some t) (Some before) (Some after) h e =
     let same : length after ≡ length before = cc in
-    ap (λ l. cond {A = Option Table} l (Some t) None) (C.le-leb t.hi (length after) (omega (arith, same, h.1)))
+    ap (λ l. cond {A = Option _} l (Some t) None) (C.le-leb _ _ (omega (arith, same, h.1)))
 
 pub far_reply : (old new : Handles) (command : C.FarCommand) (answer : Option FarAnswer) → C.IsSomeAnd answer (λ answer. C.FarStep old command answer new) → HasSamePlaces old new
 far_reply old new command None h = absurd h
-far_reply old new command (Some answer) h = far_same old new command answer h
+far_reply old new command (Some answer) h = far_same old new _ _ h
 
 -- so all are left where each object has as many
 pub tables_stay : (old new : World) → C.AreLocalHeaps old → new ≡ C.after_loading old new.loading → HasSamePlaces old.loading.handles new.loading.handles → new.heaps ≡ old.heaps
-tables_stay old new is rest same = C.same_map C.nat_cmp_total C.nat_cmp-IsAntisymmetric new.heaps old.heaps (λ slot.
-    ap (λ w. finmap.get w.heaps slot) rest ∙ left_is new.loading.handles.heap old.heaps slot
-    ∙ left_same (finmap.get old.heaps slot) (C.segment_bytes old slot) (C.segment_bytes new slot) (is.heaps slot) (same.sizes slot))
+tables_stay old new is rest same = C.same_map C.nat_cmp_total C.nat_cmp-IsAntisymmetric _ _ (λ slot.
+    ap (λ w. finmap.get w.heaps slot) rest ∙ left_is new.loading.handles.heap _ _
+    ∙ left_same _ (C.segment_bytes old _) _ (is.heaps _) (same.sizes _))
 
 -- a local heap that has its table has its objects
 pub same_heaps : (old new : World) → C.AreLocalHeaps old → (at after : C.LocalHeap) → IsThere old at → IsThere new after → after.table ≡ at.table → HasSameObjects (heap_of at) (heap_of after)
 same_heaps old new is at after was now t =
     let here = local_here old is at was in
-    subst (λ t. HasSameObjects (heap_of at) (heap_in t after.bytes)) (sym t) (same_objects at.table here.0.sound.table at.bytes after.bytes here.1 (subst (λ t. t.hi ≤ length after.bytes) t now.inside))
+    subst (λ t. HasSameObjects (heap_of at) (heap_in t after.bytes)) (sym t) (same_objects at.table here.0.sound.table _ after.bytes here.1 (subst (λ t. t.hi ≤ length after.bytes) t now.inside))
 
 pub local_far_law : C.FarLaw
 local_far_law old new command reply is known step rest = (
@@ -127,7 +127,7 @@ local_far_law old new command reply is known step rest = (
 )
   where
     same_tables : new.heaps ≡ old.heaps
-    same_tables = tables_stay old new is rest (far_reply old.loading.handles new.loading.handles command (C.far_answer_in reply) step)
+    same_tables = tables_stay old new is rest (far_reply _ _ command _ step)
 
     same_table : (at after : C.LocalHeap) → IsThere old at → IsThere new after → after.slot ≡ at.slot → after.table ≡ at.table
     same_table at after was now e = let some : ◌≡◌ {A = Option Table} (Some after.table) (Some at.table) = sym now.table ∙ ap (λ m. finmap.get m after.slot) same_tables ∙ ap (finmap.get old.heaps) e ∙ was.table in cc

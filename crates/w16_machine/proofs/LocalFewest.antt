@@ -13,17 +13,17 @@ use Rattle.std.specs.FinMap as finmap
 
 -- no name is 0
 pub some_name : (heap : Heap) → C.IsHeap heap → 4 ≤ heap.lo → (id : ℕ) → name_at heap id ≡ Some 0 → ⊥
-some_name heap is low id = turn (object_at heap id)
+some_name heap is low id = turn _
   where
     by_kind : (f : Bool) → cond f (finmap.get heap.places id) (Some (4 * id + 2)) ≡ Some 0 → ⊥
     by_kind true e =
-        let x = block_placed heap is id 0 e in
+        let x = block_placed _ is id 0 e in
         omega (arith, low, x.3, (C.Each-at (λ x. (heap.lo ≤ x.at) × (0 < x.size) × (C.block_end x ≤ heap.hi)) (C.blocks heap) (C.Each-from_All _ (C.blocks heap) is.placed.inside) x.0 (C.block_member heap x.0 x.1)).0)
     by_kind false e = let same : 4 * id + 2 ≡ 0 = cc in omega (arith, same)
 
     turn : (p : Option Object) → ◌≡◌ {A = Option ℕ} (elim p [ None ↦ None | Some o ↦ C.name_of heap id o ]) (Some 0) → ⊥
     turn None e = cc
-    turn (Some o) e = by_kind (C.is_fixed o.kind) e
+    turn (Some o) e = by_kind _ e
 
 module _ (old : World) (is : AreLocalHeaps old) (at : LocalHeap) (c : current_heap old ≡ Some at) (new : World) where
   here : IsThere old at
@@ -140,11 +140,11 @@ module _ (old : World) (is : AreLocalHeaps old) (at : LocalHeap) (c : current_he
 
 pub local_alloc_law : C.AllocLaw
 local_alloc_law old new flags size answer at is step c =
-    allocs old is at c new (local_world old is (C.LocalAlloc flags size) answer new (outcome old (C.LocalAlloc flags size) answer new step)) flags size answer
+    allocs old is at c new (local_world old is (C.LocalAlloc flags size) answer new (outcome old _ _ new step)) _ _ _
     (subst (λ p. MatchOption p (Stays old 0 answer new) (C.AllocatesIn old flags size answer new)) c step)
 
 pub local_compact_law : C.CompactLaw
-local_compact_law old new size answer at is step c = compacts old is at c new size answer (subst (λ p. MatchOption p (Stays old 0 answer new) (C.CompactsIn old size answer new)) c step)
+local_compact_law old new size answer at is step c = compacts old is at c new _ _ (subst (λ p. MatchOption p (Stays old 0 answer new) (C.CompactsIn old size answer new)) c step)
 
 -- A reallocation to a size above 0.
 module _ (old : World) (is : AreLocalHeaps old) (o : C.LocalObject) (c : current_heap old ≡ Some o.heap) (new : World) (now : AreLocalHeaps new) (size flags answer : ℕ) where
@@ -225,7 +225,7 @@ module _ (old : World) (is : AreLocalHeaps old) (o : C.LocalObject) (c : current
 
 pub local_realloc_law : C.ReallocLaw
 local_realloc_law old new name size flags answer o is step named unmodified some =
-    turn (has_flag flags C.LMEM_MODIFY) unmodified (size == 0) (ne_eqb size 0 (λ e. absurd (omega (arith, e, some))))
+    turn (has_flag flags _) unmodified _ (ne_eqb size 0 (λ e. absurd (omega (arith, e, some))))
     (subst (λ p. MatchOption p (Stays old 0 answer new)
     (λ o. MatchBool (has_flag flags C.LMEM_MODIFY) (C.ModifiesObject old name flags answer new o)
     (MatchBool (size == 0) (C.DiscardsObject old name flags answer new o) (SizesObject old size flags answer new o))))
@@ -235,7 +235,7 @@ local_realloc_law old new name size flags answer o is step named unmodified some
     c = (named_there old name o named).0
 
     now : AreLocalHeaps new
-    now = local_world old is (C.LocalReAlloc name size flags) answer new (outcome old (C.LocalReAlloc name size flags) answer new step)
+    now = local_world old is (C.LocalReAlloc name size flags) answer new (outcome old _ answer new step)
 
     turn : (m : Bool) → m ≡ false → (z : Bool) → z ≡ false → MatchBool m (C.ModifiesObject old name flags answer new o) (MatchBool z (C.DiscardsObject old name flags answer new o) (SizesObject old size flags answer new o)) → C.ReallocFewest old o size flags answer new
     turn true e z f s = absurd (false≢true (sym e))

@@ -12,7 +12,7 @@ use Rattle.w16_model.proofs.Gaps.{Each-map}
 pub later_heap : (heap : Heap) (end : ℕ) → IsHeap heap → heap.hi ≤ end → IsHeap (ending heap end)
 later_heap heap end is le = record {
   placed = record {
-    inside = C.All-from_Each (Inside end) (blocks heap) (Each-map (Inside heap.hi) (Inside end) (λ x h. (h.0, h.1, omega (arith, h.2, le))) (blocks heap) (C.Each-from_All (Inside heap.hi) (blocks heap) is.placed.inside));
+    inside = C.All-from_Each (Inside end) (blocks heap) (Each-map (Inside heap.hi) (Inside end) (λ x h. (h.0, h.1, omega (arith, h.2, le))) (blocks heap) (C.Each-from_All _ _ is.placed.inside));
     apart = is.placed.apart;
   };
   grained = is.grained;
@@ -38,7 +38,7 @@ neither false b e = (refl, e)
 -- An allocation that isn't answered lacks room.
 pub alloc_lacks : (heap : Heap) → IsHeap heap → (id : ℕ) → object_at heap id ≡ None → (n : ℕ) (options : RoomOptions) → is_answered heap id n options ≡ false → C.LacksRoom heap None n options
 alloc_lacks heap is id free n options refused =
-    C.lacking heap is n None options options.compact options.discard refl refl (sym (C.none_about heap is id free n options) ∙ none_of (discards_needed heap n (Some id) options) (sym (ap by_object free) ∙ refused))
+    C.lacking heap is n None options _ _ refl refl (sym (C.none_about heap is id free n options) ∙ none_of _ (sym (ap by_object free) ∙ refused))
   where
     by_object : Option Object → Bool
     by_object p = elim p [ None ↦ is_some (discards_needed heap n (Some id) options) | Some o ↦ is_resized heap id o n options ]
@@ -81,7 +81,7 @@ module _ (heap : Heap) (id n : ℕ) (options : RoomOptions) (some : 0 < n) (roun
 -- and so it lacks the bytes.
 pub realloc_lacks : (heap : Heap) → IsHeap heap → (at : C.LocalHeap) (id n : ℕ) (options : RoomOptions) → 0 < n → C.IsMultiple heap.grain n → is_some (object_at heap id) ≡ true → is_answered heap id n options ≡ false
     → C.LacksBytes (record { heap = at; id = id }) n options heap
-realloc_lacks heap is at id n options some rounded there refused = turn (object_at heap id) refl there refused
+realloc_lacks heap is at id n options some rounded there refused = turn _ refl there refused
   where
     by_object : Option Object → Bool
     by_object p = elim p [ None ↦ is_some (discards_needed heap n (Some id) options) | Some o ↦ is_resized heap id o n options ]
@@ -102,7 +102,7 @@ least_true : (P : ℕ → Bool) (n : ℕ) → ((k : ℕ) → k < n → P k ≡ f
 least_true P zero = inl (λ k l. absurd (omega (arith, l)))
 least_true P (suc n) = elim (least_true P n) [
   | inr found ↦ inr (found.0, omega (arith, found.1), found.2, found.3)
-  | inl none ↦ elim (C.cases_Bool (P n)) [
+  | inl none ↦ elim (C.cases_Bool _) [
     | inl t ↦ inr (n, omega arith, t, none)
     | inr f ↦ inl (λ k l. elim (C.cases_eq k n) [ inl e ↦ ap P e ∙ f | inr d ↦ none k (omega (arith, l, d)) ])
   ]

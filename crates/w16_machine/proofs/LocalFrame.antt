@@ -116,5 +116,5 @@ frame old new is command answer (inr (inr (at, c, inr (inr g)))) = inr (grown_re
 
 pub frame_law : C.FrameLaw
 frame_law old new (DS selector) Done is step = inl (same_objects old new (ap (λ w. w.loading) step) (λ slot. inl (ap (λ w. finmap.get w.heaps slot) step)))
-frame_law old new command (Word answer) is step = frame old new is command answer (outcome old command answer new step)
+frame_law old new command (Word answer) is step = frame old new is _ answer (outcome old _ _ new step)
 frame_law old new command reply is step = absurd step

@@ -23,7 +23,7 @@ laid_bounds lo hi (x ∷ xs) laid = let rest = laid_bounds (block_end x) hi xs l
 -- a table that ends later is sound
 later_sound : (t : Table) (end : ℕ) → IsSound t → t.hi ≤ end → IsSound (record t { hi = end })
 later_sound t end s le = record {
-  table = record { laid = laid_later t.lo t.hi end t.blocks s.table.laid le; ids = s.table.ids; holds = s.table.holds };
+  table = record { laid = laid_later _ _ end _ s.table.laid le; ids = s.table.ids; holds = s.table.holds };
   grained = s.grained;
   low_grained = s.low_grained;
   in_order = s.in_order;
@@ -36,7 +36,7 @@ later_local t end is le most = record { sound = later_sound t end is.sound le; g
 
 -- the flags of a growth change no kind
 pub plain_flags : (options : RoomOptions) → C.has_flag (growth_flags options) GMEM_MODIFY ≡ false
-plain_flags options = turn options.discard
+plain_flags options = turn _
   where
     turn : (b : Bool) → C.has_flag (cond b 0 GMEM_NODISCARD) GMEM_MODIFY ≡ false
     turn true = refl
@@ -48,7 +48,7 @@ rounded_few size most = omega (arith, most)
 
 -- a handle's slot is told by it alone
 handle_slot : (handles : Handles) (handle slot : ℕ) → slot_of_handle handles handle ≡ Some slot → slot ≡ handle / 8
-handle_slot handles handle slot = turn (object_at handles.heap (handle / 8))
+handle_slot handles handle slot = turn _
   where
     by_kind : (b : Bool) → ◌≡◌ {A = Option ℕ} (cond b (Some (handle / 8)) None) (Some slot) → slot ≡ handle / 8
     by_kind true e = let same : handle / 8 ≡ slot = cc in sym same
@@ -56,18 +56,18 @@ handle_slot handles handle slot = turn (object_at handles.heap (handle / 8))
 
     turn : (p : Option Object) → ◌≡◌ {A = Option ℕ} (elim p [ Some o ↦ cond (handle == handle_of o.kind (handle / 8)) (Some (handle / 8)) None | None ↦ None ]) (Some slot) → slot ≡ handle / 8
     turn None e = cc
-    turn (Some o) e = by_kind (handle == handle_of o.kind (handle / 8)) e
+    turn (Some o) e = by_kind _ e
 
 -- the current heap is in the segment that DS selects
 selected : (w : World) (at : LocalHeap) → current_heap w ≡ Some at → slot_of_selector w.loading.handles w.ds ≡ Some at.slot
-selected w at e = turn (slot_of_selector w.loading.handles w.ds) refl e
+selected w at e = turn _ refl e
   where
     turn : (s : Option ℕ) → slot_of_selector w.loading.handles w.ds ≡ s → ◌≡◌ {A = Option LocalHeap} (elim s [ None ↦ None | Some slot ↦ local_in w slot ]) (Some at) → slot_of_selector w.loading.handles w.ds ≡ Some at.slot
     turn None s e = cc
-    turn (Some slot) s e = s ∙ ap Some (sym (local_there w slot at e).1)
+    turn (Some slot) s e = s ∙ ap Some (sym (local_there w _ at e).1)
 
 select : (w : World) (slot : ℕ) → slot_of_selector w.loading.handles w.ds ≡ Some slot → current_heap w ≡ local_in w slot
-select w slot e = ap (λ s. elim s as (λ _. Option LocalHeap) [ None ↦ None | Some slot ↦ local_in w slot ]) e
+select w slot e = ap (λ s. elim s as (λ _. Option _) [ None ↦ None | Some slot ↦ local_in w slot ]) e
 
 -- What has become of the segment: it has its kind and its locks, and the size, and its old bytes first.
 pub record IsGrownObject (old : World) (at : LocalHeap) (handles : Handles) (size : ℕ) (bytes : List ℕ) : Type 0 where

@@ -17,8 +17,8 @@ left_over (Some t) (Some bytes) = cond (nat_le t.hi (length bytes)) (Some t) Non
 
 pub left_is : (heap : Heap) (tables : C.FinMap C.nat_cmp Table) (slot : ℕ) → finmap.get (C.left_in heap tables) slot ≡ left_over (finmap.get tables slot) (bytes_at heap slot)
 left_is heap tables slot =
-    C.get-retain_keys tables (C.has_range heap tables) slot (λ x t. ap (C.has_range heap tables) (sym (C.nat_cmp-IsAntisymmetric slot x t)))
-    ∙ turn (finmap.get tables slot) (bytes_at heap slot)
+    C.get-retain_keys _ _ _ (λ x t. ap (C.has_range heap _) (sym (C.nat_cmp-IsAntisymmetric _ x t)))
+    ∙ turn (finmap.get _ _) (bytes_at heap _)
   where
     turn : (t : Option Table) (b : Option (List ℕ)) → cond (elim t as (λ _. Bool) [ None ↦ false | Some t ↦ elim b [ None ↦ false | Some bytes ↦ nat_le t.hi (length bytes) ] ]) t None ≡ left_over t b
     turn None b = refl
@@ -31,17 +31,17 @@ heaps_after old new is handles rest = subst AreLocalHeaps (sym rest)
     (record {
       handles = handles;
       heaps = λ slot. subst (λ t. IsLocalAt t (bytes_at new.loading.handles.heap slot))
-          (sym (left_is new.loading.handles.heap old.heaps slot))
-          (turn (finmap.get old.heaps slot) (C.segment_bytes old slot) (bytes_at new.loading.handles.heap slot)
-          (is.heaps slot));
+          (sym (left_is new.loading.handles.heap _ _))
+          (turn (finmap.get _ _) (C.segment_bytes old _) (bytes_at new.loading.handles.heap _)
+          (is.heaps _));
     })
   where
     inside : (t : Table) (before after : List ℕ) → C.IsLocalIn t before → (b : Bool) → nat_le t.hi (length after) ≡ b → IsLocalAt (cond b (Some t) None) (Some after)
-    inside t before after h true e = let le = C.leb-true t.hi (length after) e in (h.0, le, named_in t h.0.sound.table before after h.1 le h.2)
+    inside t before after h true e = let le = C.leb-true t.hi (length _) e in (h.0, le, named_in t h.0.sound.table before after h.1 le h.2)
     inside t before after h false e = tt
 
     turn : (t : Option Table) (before after : Option (List ℕ)) → IsLocalAt t before → IsLocalAt (left_over t after) after
     turn None before after h = tt
     turn (Some t) before None h = tt
     turn (Some t) None (Some after) h = absurd h
-    turn (Some t) (Some before) (Some after) h = inside t before after h (nat_le t.hi (length after)) refl
+    turn (Some t) (Some before) (Some after) h = inside t before after h (nat_le _ _) refl

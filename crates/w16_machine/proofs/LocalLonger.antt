@@ -210,4 +210,4 @@ module _ (old new : World) (command : C.LocalCommand) (is : C.AreLocalHeaps old)
   }
 
 pub growth_law : C.GrowthLaw
-growth_law old new command is r = leaves_longer old new command is r
+growth_law old new command is r = leaves_longer old new _ is r

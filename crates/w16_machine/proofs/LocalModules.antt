@@ -13,7 +13,7 @@ rewritten_owned : (at : LocalHeap) (p r : Option C.Object) (kind : Kind) (size :
     → IsSomeAnd p (λ o. (o.kind ≡ kind) × IfSome o.bytes (λ b. length b ≡ size)) → IsSomeAnd r (λ o. (o.kind ≡ kind) × IfSome o.bytes (λ b. length b ≡ size))
 rewritten_owned at None r kind size h k = absurd h
 rewritten_owned at (Some o) None kind size h k = absurd h
-rewritten_owned at (Some o) (Some after) kind size h k = (h.kind ∙ k.0, sized after.bytes h.has)
+rewritten_owned at (Some o) (Some after) kind size h k = (h.kind ∙ k.0, sized _ h.has)
   where
     long : length at.bytes ≡ size
     long = subst (λ p. IfSome p (λ b. length b ≡ size)) h.had k.1
@@ -24,11 +24,11 @@ rewritten_owned at (Some o) (Some after) kind size h k = (h.kind ∙ k.0, sized 
 
 kept_owned : (old new : World) (slot : ℕ) (kind : Kind) (size : ℕ) → C.IsObjectKept old new slot → IsOwned old.loading.handles.heap slot kind size → IsOwned new.loading.handles.heap slot kind size
 kept_owned old new slot kind size (inl same) h = subst (λ p. IsSomeAnd p (λ o. (o.kind ≡ kind) × IfSome o.bytes (λ b. length b ≡ size))) (sym same) h
-kept_owned old new slot kind size (inr c) h = turn (current_heap old) c
+kept_owned old new slot kind size (inr c) h = turn _ c
   where
     turn : (p : Option LocalHeap) → IsSomeAnd p (λ at. (at.slot ≡ slot) × IsSomeAnd (object_at old.loading.handles.heap slot) (λ before. IsSomeAnd (object_at new.loading.handles.heap slot) (IsRewritten at before))) → IsOwned new.loading.handles.heap slot kind size
     turn None c = absurd c
-    turn (Some at) c = rewritten_owned at (object_at old.loading.handles.heap slot) (object_at new.loading.handles.heap slot) kind size c.1 h
+    turn (Some at) c = rewritten_owned at _ _ _ _ c.1 h
 
 module _ (old new : World) (k : KeepsRest old new) (uncoded : (slot : ℕ) → IfSome (finmap.get old.heaps slot) (λ _. owned_code old.loading.handles slot ≡ false)) where
   -- code isn't rewritten

@@ -15,7 +15,7 @@ HasName o = is_fixed o.kind ≡ true → is_some o.bytes ≡ true
 -- other bytes of the segment don't matter
 pub named_in : (t : Table) → C.IsTable t → (memory after : List ℕ) → t.hi ≤ C.length memory → t.hi ≤ C.length after → AreNamed (C.heap_in t memory) → AreNamed (C.heap_in t after)
 named_in t is memory after whole same named id =
-    subst (λ p. IfSome p HasName) (sym (C.object_is t is after same id)) (turn (C.entry_at t id) (subst (λ p. IfSome p HasName) (C.object_is t is memory whole id) (named id)))
+    subst (λ p. IfSome p HasName) (sym (C.object_is t is _ same id)) (turn (C.entry_at t id) (subst (λ p. IfSome p HasName) (C.object_is t is _ whole id) (named id)))
   where
     some_bytes : (b : Option Block) → is_some (option_map (λ x. C.slice_range memory x.at (x.at + x.size)) b) ≡ is_some (option_map (λ x. C.slice_range after x.at (x.at + x.size)) b)
     some_bytes None = refl
@@ -23,21 +23,21 @@ named_in t is memory after whole same named id =
 
     turn : (e : Option Entry) → IfSome (option_map (C.object_in t.blocks memory id) e) HasName → IfSome (option_map (C.object_in t.blocks after id) e) HasName
     turn None h = tt
-    turn (Some e) h = λ f. sym (some_bytes (C.block_with t.blocks id)) ∙ h f
+    turn (Some e) h = λ f. sym (some_bytes _) ∙ h f
 
 -- an object that isn't fixed has a name
 loose_named : (o : Object) → is_fixed o.kind ≡ false → HasName o
 loose_named o loose f = absurd (false≢true (sym loose ∙ f))
 
 pub not_fixed : (flags : ℕ) → is_fixed (moveable_or_discardable flags) ≡ false
-not_fixed flags = turn (C.has_flag flags C.LMEM_DISCARDABLE)
+not_fixed flags = turn _
   where
     turn : (b : Bool) → is_fixed (cond b Discardable C.Moveable) ≡ false
     turn true = refl
     turn false = refl
 
 asked_loose : (flags size : ℕ) → C.is_absent_asked flags size ≡ true → is_fixed (local_kind flags) ≡ false
-asked_loose flags size t = ap (λ b. is_fixed (cond b (moveable_or_discardable flags) Fixed)) (C.and_parts (size == 0) (C.has_flag flags C.LMEM_MOVEABLE) t).1 ∙ not_fixed flags
+asked_loose flags size t = ap (λ b. is_fixed (cond b (moveable_or_discardable flags) Fixed)) (C.and_parts (size == 0) _ t).1 ∙ not_fixed flags
 
 module _ (old : Heap) (named : AreNamed old) where
   -- an object that is there

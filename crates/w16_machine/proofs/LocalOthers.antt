@@ -13,7 +13,7 @@ use Rattle.std.specs.FinMap as finmap
 use Rattle.w16_model.specs.declared.Refusal.TheVariants as refusals
 
 pub stands_same : (old new : Heap) (q : ℕ) → finmap.get new.places q ≡ finmap.get old.places q → C.StandsStill old new q
-stands_same old new q e = turn (finmap.get old.places q) e
+stands_same old new q e = turn _ e
   where
     turn : (p : Option ℕ) → finmap.get new.places q ≡ p → C.IfSome p (λ at. finmap.get new.places q ≡ Some at)
     turn None e = tt
@@ -199,8 +199,8 @@ module _ (old : World) (is : C.AreLocalHeaps old) (at : C.LocalHeap) (c : C.curr
 
 pub local_others_law : C.OthersLaw
 local_others_law old new command reply at after q o is step c e there unnamed =
-    current_becomes old at c command reply new (λ next. IsLocalKept (asks_for_room command) (heap_of at) next q o) (itself_kept (asks_for_room command) (heap_of at) q o there) (stepped_kept old is at c command q o there others) roomed
-    (grown_becomes old is at c command new (λ next. IsLocalKept (asks_for_room command) (heap_of at) next q o) (longer_kept old is at c command q o there (λ id named may. others id named))) after e step
+    current_becomes old at c command reply new (λ next. IsLocalKept _ _ next q o) (itself_kept _ _ q o there) (stepped_kept old is at c command q o there others) roomed
+    (grown_becomes old is at c command new (λ next. IsLocalKept _ _ next q o) (longer_kept old is at c command q o there (λ id named may. others id named))) after e step
   where
     others : (id : ℕ) → IsNamedIn (heap_of at) command id → q ≢ id
     others = other old is at c command q o there unnamed

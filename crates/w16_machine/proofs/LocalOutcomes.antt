@@ -69,8 +69,8 @@ first false b e = e
 
 -- such a call asks for room
 pub grow_asks : (command : LocalCommand) → may_grow command ≡ true → asks_for_room command ≡ true
-grow_asks (LocalAlloc flags size) e = first (asks_for_room (LocalAlloc flags size)) (not (has_flag flags LMEM_NOCOMPACT)) e
-grow_asks (LocalReAlloc name size flags) e = first (asks_for_room (LocalReAlloc name size flags)) (not (has_flag flags LMEM_NOCOMPACT)) e
+grow_asks (LocalAlloc flags size) e = first _ _ e
+grow_asks (LocalReAlloc name size flags) e = first _ _ e
 grow_asks other e = absurd (false≢true e)
 
 -- what was done in a local heap
@@ -92,7 +92,7 @@ acts_as old at P Q new f a = record {
   long = a.long;
   outside = a.outside;
   are_bytes = a.are_bytes;
-  acted = f (C.heap_in a.table a.bytes) a.acted;
+  acted = f _ a.acted;
   rest = a.rest;
 }
 
@@ -208,25 +208,25 @@ module _ (old : World) (command : LocalCommand) (answer : ℕ) (new : World) whe
       modify false e s = by_size e (size == 0) refl s
 
 pub outcome : (old : World) (command : LocalCommand) (answer : ℕ) (new : World) → C.Answers old command answer new → Outcome old command answer new
-outcome old (LocalInit selector start end) answer new step = inits old (LocalInit selector start end) answer new selector start end refl step
-outcome old (LocalAlloc flags size) answer new step = on_chosen old (LocalAlloc flags size) answer new (C.AllocatesIn old flags size answer new) (allocates old (LocalAlloc flags size) answer new flags size refl (λ some. ap not some) (λ some may i. not (some i) && may i)) step
+outcome old (LocalInit selector start end) answer new step = inits old _ _ new _ _ end refl step
+outcome old (LocalAlloc flags size) answer new step = on_chosen old _ _ new _ (allocates old _ _ new _ size refl (λ some. ap not some) (λ some may i. not (some i) && may i)) step
 outcome old (LocalReAlloc name size flags) answer new step =
-    on_named old (LocalReAlloc name size flags) answer new name 0 _ refl
-    (λ o c named s. reallocates old (LocalReAlloc name size flags) answer new name size flags
+    on_named old _ _ new _ 0 _ refl
+    (λ o c named s. reallocates old _ _ new name size _
     (λ keeps some. let asks = ap not
     (ap (λ b. b || (size == 0)) keeps ∙ some) in (asks, asks, (λ may i. asks i && may i), refl)) o c named s) step
-outcome old (LocalDiscard name) answer new step = on_named old (LocalDiscard name) answer new name 0 _ refl (λ o c named s. reallocates old (LocalDiscard name) answer new name 0 LMEM_MOVEABLE (λ keeps some. absurd (false≢true (sym some))) o c named s) step
+outcome old (LocalDiscard name) answer new step = on_named old _ _ new _ 0 _ refl (λ o c named s. reallocates old _ _ new name 0 LMEM_MOVEABLE (λ keeps some. absurd (false≢true (sym some))) o c named s) step
 outcome old (LocalFree name) answer new step =
-    on_named old (LocalFree name) answer new name name (λ o. GivesUp old o.heap (after_free (heap_of o.heap) o.id) 0 name answer new) refl
-    (λ o c named l. gives_up old (LocalFree name) answer new o c named (after_free (heap_of o.heap) o.id) (λ next e. inl (refl, e)) 0 name l) step
+    on_named old _ _ new _ name (λ o. GivesUp old o.heap _ 0 name answer new) refl
+    (λ o c named l. gives_up old _ _ new o c named _ (λ next e. inl (refl, e)) 0 name l) step
 outcome old (LocalLock name) answer new step =
-    on_named old (LocalLock name) answer new name 0 (λ o. Leaves old o.heap (after_lock (heap_of o.heap) o.id) (λ _. near_pointer (heap_of o.heap) o.id) (C.lock_refused (near_pointer (heap_of o.heap) o.id)) answer new) refl
-    (λ o c named l. leaves old (LocalLock name) answer new o c named (after_lock (heap_of o.heap) o.id) (λ next e. inl e) (λ _. near_pointer (heap_of o.heap) o.id) (C.lock_refused (near_pointer (heap_of o.heap) o.id)) l) step
+    on_named old _ _ new _ 0 (λ o. Leaves old _ _ (λ _. near_pointer (heap_of o.heap) o.id) _ _ new) refl
+    (λ o c named l. leaves old _ _ new o c named _ (λ next e. inl e) (λ _. near_pointer (heap_of o.heap) _) _ l) step
 outcome old (LocalUnlock name) answer new step =
-    on_named old (LocalUnlock name) answer new name 0 (λ o. Leaves old o.heap (after_unlock (heap_of o.heap) o.id) (C.locks_left o.id) (λ _. 0) answer new) refl
-    (λ o c named l. leaves old (LocalUnlock name) answer new o c named (after_unlock (heap_of o.heap) o.id) (λ next e. inr (inl e)) (C.locks_left o.id) (λ _. 0) l) step
+    on_named old _ _ new _ 0 (λ o. Leaves old o.heap _ _ (λ _. 0) answer new) refl
+    (λ o c named l. leaves old _ _ new o c named _ (λ next e. inr (inl e)) _ (λ _. 0) l) step
 outcome old (C.LocalSize name) answer new step = inl step.1
 outcome old (C.LocalFlags name) answer new step = inl step.1
 outcome old (C.LocalHandle pointer) answer new step = inl step.1
-outcome old (LocalCompact size) answer new step = on_chosen old (LocalCompact size) answer new (C.CompactsIn old size answer new) (compacts old (LocalCompact size) answer new size (λ some. ap not some)) step
+outcome old (LocalCompact size) answer new step = on_chosen old _ _ new _ (compacts old _ _ new size (λ some. ap not some)) step
 outcome old (DS selector) answer new step = absurd step

@@ -14,8 +14,8 @@ use Rattle.w16_loading.specs.Families as families
 reply_same : (old new : C.Handles) (command : C.HandleCommand) (answer : Option C.Answer) → C.call_may_take command ≡ false → IsSomeAnd answer (λ answer. C.HandleStep old command answer new) → HasSamePlaces old new
 reply_same old new command None m step = absurd step
 reply_same old new command (Some answer) m step =
-    let k = C.contents old new (Calls command) answer (C.call_outcome old new command answer step) m in
-    record { addresses = k.addresses; attributes = k.attributes; kinds = k.kinds; sizes = λ q. ap (option_map length) (k.bytes q) }
+    let k = C.contents old new (Calls _) answer (C.call_outcome old new _ _ step) m in
+    record { addresses = k.addresses; attributes = k.attributes; kinds = k.kinds; sizes = λ q. ap (option_map _) (k.bytes q) }
 
 module _ (fetches : Fetching) (loads : Loading) (old new : LoadingWorld) (reply : Reply) where
   same_world : (next : LoadingWorld) → HasSamePlaces old.handles next.handles → new ≡ next → HasSamePlaces old.handles new.handles
@@ -52,14 +52,14 @@ module _ (fetches : Fetching) (loads : Loading) (old new : LoadingWorld) (reply 
   resources_sizes other m step = absurd (false≢true (sym m))
 
 pub places_law : (honest : Type 0) → C.SamePlacesLaw honest
-places_law honest format old new (C.OfHandles command) reply m step = reply_same old.handles new.handles command (C.answer_in reply) m (call_replies honest format old new command reply step)
+places_law honest format old new (C.OfHandles command) reply m step = reply_same _ _ _ (C.answer_in reply) m (call_replies honest format old new command reply step)
 places_law honest format old new (C.OfResizes command) reply m step = absurd (false≢true (sym m))
-places_law honest format old new (OfFar command) reply m step = far_sizes (fetching honest format old new) (loading honest format old new) old (record new { failures = old.failures }) reply command m step.step
-places_law honest format old new (C.OfModules command) reply m step = modules_sizes (fetching honest format old new) (loading honest format old new) old (record new { failures = old.failures }) reply command m step.step
-places_law honest format old new (C.OfResources command) reply m step = resources_sizes (fetching honest format old new) (loading honest format old new) old (record new { failures = old.failures }) reply command m step.step
+places_law honest format old new (OfFar command) reply m step = far_sizes (fetching _ format old new) (loading honest format old new) old (record new { failures = old.failures }) reply command m step.step
+places_law honest format old new (C.OfModules command) reply m step = modules_sizes (fetching honest format old new) (loading _ format old new) old (record new { failures = old.failures }) reply _ m step.step
+places_law honest format old new (C.OfResources command) reply m step = resources_sizes (fetching _ format old new) (loading honest format old new) old (record new { failures = old.failures }) reply _ m step.step
 
 pub heaps_law : (honest : Type 0) → C.HeapsLaw honest
-heaps_law honest format old new command reply is m step = tables_stay old new is step.1 (places_law honest format old.loading new.loading command reply m step.0)
+heaps_law honest format old new command reply is m step = tables_stay old new is step.1 (places_law honest format _ _ command reply m step.0)
 
 abbrev IsAlike : C.World → C.World → ℕ → Type 0
 IsAlike old new slot = (C.kind_at new.loading.handles slot ≡ C.kind_at old.loading.handles slot) × (size_at new.loading.handles slot ≡ size_at old.loading.handles slot)

@@ -1,11 +1,11 @@
 -- Each step of each family keeps what holds of local heaps.
 use Rattle.w16_machine.proofs
 use proofs.Common.{◌≡◌, ◌≢◌, ℕ, ◌<◌, inl, inr, IsSomeAnd, List, length, All, Some, option_map, refl, sym, ap, subst, arith, cases_eq, Heap, Object, object_at, after_write, AreHandles, Table, heap_in, other_handles, same_updated, written_sized, bytes_in, inserted_here, inserted_other}
-use proofs.Common.{written_heap, put_part, World, Reply, Word, Done, LocalHeap, AreLocalHeaps, IsLocalIn, AreNamed, Becomes, Acts, segment_bytes, heap_of, new_table, with_table, with_local, LocalCommand, LocalStep, DS, longer, with_longer, local_options}
+use proofs.Common.{written_heap, put_part, World, Reply, Word, Done, LocalHeap, AreLocalHeaps, IsLocalIn, AreNamed, Becomes, Acts, segment_bytes, heap_of, new_table, with_table, with_local, LocalCommand, LocalStep, DS, longer, with_longer}
 use proofs.LocalFacts.{IsThere, current_there, local_here, heap_here, object_of, segment_after, segment_other}
 use proofs.LocalBegins.{begin_law, new_local}
 use proofs.LocalNamed.{made_named, roomed_named, stepped_named}
-use proofs.LocalOutcomes.{Outcome, IsMade, IsRoomed, outcome}
+use proofs.LocalOutcomes.{Outcome, outcome}
 use proofs.{LocalGrown.grown_there, LocalGrown.grown_world, LocalLeft.IsLocalAt}
 use Rattle.std.specs.FinMap as finmap
 
@@ -48,23 +48,23 @@ module _ (old : World) (is : AreLocalHeaps old) where
 pub local_world : (old : World) → AreLocalHeaps old → (command : LocalCommand) (answer : ℕ) (new : World) → Outcome old command answer new → AreLocalHeaps new
 local_world old is command answer new (inl same) = subst AreLocalHeaps (sym same) is
 local_world old is command answer new (inr (inl init)) =
-    subst AreLocalHeaps (sym init.rest) (tabled_world old is init.begun.slot (new_table init.begun.range) (new_local old init.selector init.start init.end init.begun ((begin_law old init.selector init.start init.end init.begun).0 init.may)))
+    subst AreLocalHeaps (sym init.rest) (tabled_world old is init.begun.slot (new_table _) (new_local old init.selector init.start init.end _ ((begin_law old _ _ _ _).0 init.may)))
 local_world old is command answer new (inr (inr (at, c, inl (next, stepped, becomes)))) =
     let there = current_there old at c in
-    becomes_world old is at there next new (stepped_named (heap_of at) (local_here old is at there).2 command next stepped) becomes
+    becomes_world old is at there next new (stepped_named _ (local_here old is at there).2 command next stepped) becomes
 local_world old is command answer new (inr (inr (at, c, inr (inl acts)))) =
     let there = current_there old at c in
-    acts_world old is at there (IsRoomed (heap_of at) command answer) new (λ heap room. roomed_named (heap_of at) (local_here old is at there).2 (heap_here old is at there) command answer heap room) acts
+    acts_world old is at there _ new (λ heap room. roomed_named _ (local_here old is at there).2 (heap_here old is at there) command answer heap room) acts
 local_world old is command answer new (inr (inr (at, c, inr (inr g)))) =
     let there = current_there old at c in
     let l = g.grows.lengthens in
-    let mine = longer at g.grows.size l.bytes in
+    let mine = longer at _ l.bytes in
     let next = with_longer old l.handles mine in
-    let now = grown_world old is at there (local_options g.flags) g.grows.size g.grows.growth.served.longer l in
-    let here = grown_there old is at there (local_options g.flags) g.grows.size g.grows.growth.served.longer l in
-    acts_world next now mine here (IsMade (heap_of at) (heap_of mine) command answer) new (λ heap made. made_named (heap_of mine) (local_here next now mine here).2 (heap_here next now mine here) (heap_of at) command answer heap made) g.grows.grown
+    let now = grown_world old is at there _ _ g.grows.growth.served.longer l in
+    let here = grown_there old is at there _ _ g.grows.growth.served.longer l in
+    acts_world _ now mine here _ new (λ heap made. made_named (heap_of mine) (local_here _ now mine here).2 (heap_here _ now mine here) (heap_of at) command answer heap made) g.grows.grown
 
 pub local_heaps_kept : (old new : World) (command : LocalCommand) (reply : Reply) → AreLocalHeaps old → LocalStep old command reply new → AreLocalHeaps new
 local_heaps_kept old new (DS selector) Done is step = subst AreLocalHeaps (sym step) (record { handles = is.handles; heaps = is.heaps })
-local_heaps_kept old new command (Word answer) is step = local_world old is command answer new (outcome old command answer new step)
+local_heaps_kept old new command (Word answer) is step = local_world old is command answer new (outcome old _ _ new step)
 local_heaps_kept old new command reply is step = absurd step

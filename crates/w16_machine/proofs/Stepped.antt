@@ -20,12 +20,12 @@ handles_of old new next e = sym (ap (λ w. w.handles) e)
 pub call_replies : (honest : Type 0) (format : Format) (old new : LoadingWorld) (command : C.HandleCommand) (reply : Reply) → StepOver honest format old (C.OfHandles command) reply new → C.HandleReplies old.handles command reply new.handles
 call_replies honest format old new command reply s =
     let step : HandleStep old command reply (record new { failures = old.failures }) = s.step in
-    subst (C.HandleReplies old.handles command reply) (handles_of old (record new { failures = old.failures }) step.0 step.2) step.1
+    subst (C.HandleReplies _ _ _) (handles_of old (record new { failures = old.failures }) _ step.2) step.1
 
 pub resize_replies : (honest : Type 0) (format : Format) (old new : LoadingWorld) (command : C.ResizeCommand) (reply : Reply) → StepOver honest format old (C.OfResizes command) reply new → C.ResizeReplies old.handles command reply new.handles
 resize_replies honest format old new command reply s =
     let step : C.ResizesStep old command reply (record new { failures = old.failures }) = s.step in
-    subst (C.ResizeReplies old.handles command reply) (handles_of old (record new { failures = old.failures }) step.0 step.2) step.1
+    subst (C.ResizeReplies _ _ _) (handles_of old (record new { failures = old.failures }) _ step.2) step.1
 
 -- A far access that fetches nothing is made once.
 module _ (fetches : Fetching) (access : LoadingWorld → FarAnswer × LoadingWorld) (old new : LoadingWorld) (selector : ℕ) (reply : Reply) (none : C.needs_fetch (access old).0 old selector ≡ false) where
@@ -37,9 +37,9 @@ module _ (fetches : Fetching) (access : LoadingWorld → FarAnswer × LoadingWor
 
 -- what a reply prints
 replied : (h next : Handles) (command : FarCommand) (reply : Reply) → C.FarReplies h command reply next → (answer : FarAnswer) × (reply ≡ reply_of_far answer) × far.FarStep h command answer next
-replied h next command (Bytes bytes) s = (FarAnswer.Bytes bytes, refl, s)
+replied h next command (Bytes bytes) s = (FarAnswer.Bytes _, refl, s)
 replied h next command Done s = (FarAnswer.Done, refl, s)
-replied h next command (Fault fault) s = (FarAnswer.Fault fault, refl, s)
+replied h next command (Fault fault) s = (FarAnswer.Fault _, refl, s)
 replied h next command reply s = absurd s
 
 far_step : (fetches : Fetching) (old : LoadingWorld) (next : Handles) (command : FarCommand) (reply : Reply) → far_reads_file old command ≡ false → C.FarReplies old.handles command reply next → FarStep fetches old command reply (with_handles old next)
@@ -58,11 +58,11 @@ FetchesNothing old (OfFar command) = far_reads_file old command ≡ false
 FetchesNothing old command = Unit {0}
 
 pub handles_step : (honest : Type 0) (format : Format) (old : LoadingWorld) (next : Handles) (command : LoadingCommand) (reply : Reply) → FetchesNothing old command → C.OnHandles old.handles command reply next → StepOver honest format old command reply (with_handles old next)
-handles_step honest format old next command reply none s = record { counted = omega arith; files = refl; step = turn command none s }
+handles_step honest format old next command reply none s = record { counted = omega arith; files = refl; step = turn _ none s }
   where
     turn : (command : LoadingCommand) → FetchesNothing old command → C.OnHandles old.handles command reply next → C.FamilyStep (fetching honest format old old) (loading honest format old old) old command reply (with_handles old next)
     turn (C.OfHandles command) none s = (next, s, refl)
     turn (C.OfResizes command) none s = (next, s, refl)
-    turn (OfFar command) none s = far_step (fetching honest format old old) old next command reply none s
+    turn (OfFar command) none s = far_step (fetching _ format old old) old _ _ _ none s
     turn (C.OfModules command) none s = absurd s
     turn (C.OfResources command) none s = absurd s

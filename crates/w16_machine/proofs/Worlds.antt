@@ -5,19 +5,18 @@ use proofs.Common.{◌≡◌, false, sym, subst, World, Step, OfLoading}
 use proofs.LocalModules.{local_files_kept, local_world_kept}
 use proofs.{Discards.step_fewest, Runs.run_each, Loaded.loading_world_kept}
 use Rattle.w16_loading.proofs.Begun.{empty_law as empty_loading_law}
-use Rattle.w16_machine.specs.Fewest.{IsFewest}
 
 pub empty_world_law : C.EmptyLaw
 empty_world_law format memory slots files failures few = (
   record {
-    loading = empty_loading_law memory slots files failures few;
+    loading = empty_loading_law _ _ _ _ few;
     heaps = record {
-      handles = C.empty_law memory slots few;
-      heaps = λ slot. subst (λ t. C.IfSome t (λ t. C.IsSomeAnd (C.segment_bytes w slot) (C.IsLocalIn t))) (sym (C.get-empty C.nat_cmp slot)) tt;
+      handles = C.empty_law _ _ few;
+      heaps = λ slot. subst (λ t. C.IfSome t (λ t. C.IsSomeAnd (C.segment_bytes w slot) (C.IsLocalIn t))) (sym (C.get-empty _ _)) tt;
     };
-    uncoded = λ slot. subst (λ t. C.IfSome t (λ _. C.is_code w.loading.handles slot ≡ false)) (sym (C.get-empty C.nat_cmp slot)) tt;
+    uncoded = λ slot. subst (λ t. C.IfSome t (λ _. C.is_code w.loading.handles slot ≡ false)) (sym (C.get-empty _ _)) tt;
   },
-  C.empty_of_files_law format memory slots files failures,
+  C.empty_of_files_law _ _ _ _ _,
 )
   where
     w : World
@@ -29,20 +28,20 @@ world_law honest format old new (C.OfLocals command) reply is known step = local
 
 pub files_law : (honest : Type 0) → C.FilesLaw honest
 files_law honest format old new (OfLoading command) reply truly is known step = (
-  world_law honest format old new (OfLoading command) reply is.0 known step,
-  C.code_law honest format old.loading new.loading command reply truly is.0.loading is.1 step.0,
+  world_law honest format old new (OfLoading _) reply is.0 known step,
+  C.code_law honest _ _ _ command reply truly is.0.loading is.1 step.0,
 )
-files_law honest format old new (C.OfLocals command) reply truly is known step = (local_world_kept old new command reply is.0 step, local_files_kept old new command reply is.0 step format is.1)
+files_law honest format old new (C.OfLocals command) reply truly is known step = (local_world_kept old new command reply is.0 step, local_files_kept old new command reply is.0 step _ is.1)
 
 -- Runs.
 
 pub run_world_law : (honest : Type 0) → C.RunWorldLaw honest
-run_world_law honest format old new events is known run = (run_each (Step honest format) C.IsWorld (λ now event. Unit {0}) (λ now event is known step. (tt, world_law honest format now event.after event.command event.reply is known step)) old new events is known run).1
+run_world_law honest format old new events is known run = (run_each _ _ (λ now event. Unit {0}) (λ now event is known step. (tt, world_law honest format now _ _ _ is known step)) old new _ is known run).1
 
 pub run_files_law : (honest : Type 0) → C.RunFilesLaw honest
 run_files_law honest format old new events truly is known run =
-    (run_each (Step honest format) (C.IsWorldOfFiles format) (λ now event. Unit {0}) (λ now event is known step. (tt, files_law honest format now event.after event.command event.reply truly is known step)) old new events is known run).1
+    (run_each _ _ (λ now event. Unit {0}) (λ now event is known step. (tt, files_law honest format now _ _ _ truly is known step)) old new _ is known run).1
 
 pub fewest_law : (honest : Type 0) → C.FewestLaw honest
 fewest_law honest format old new events is known run =
-    (run_each (Step honest format) C.IsWorld IsFewest (λ now event is known step. (step_fewest honest format now event is step, world_law honest format now event.after event.command event.reply is known step)) old new events is known run).0
+    (run_each _ _ _ (λ now event is known step. (step_fewest honest format now _ is step, world_law honest format now _ _ _ is known step)) old new _ is known run).0

@@ -43,9 +43,9 @@ pub pack : {X : Type 0} (size : X → ℕ) (xs : List X) (pos : X → ℕ) (a b 
     → a + sum_by size xs ≤ b
 pack size [] pos a b h inside apart = omega arith
 pack {X} size (x ∷ xs) pos a b h inside apart =
-    let moved : X → ℕ = λ y. shift (pos x) (size x) (pos y) in
+    let moved : X → ℕ = λ y. shift (pos x) _ (pos y) in
     let rest = pack size xs moved a _ (omega (arith, inside.0))
-    (Each-both _ _ _ (λ y inside_y apart_y. shift_in (pos x) _ a b (pos y) (size y) inside.0.0 inside.0.1 inside_y.0 inside_y.1 apart_y) xs inside.1 apart.0)
+    (Each-both _ _ _ (λ y inside_y apart_y. shift_in (pos x) _ a b (pos y) _ inside.0.0 inside.0.1 inside_y.0 inside_y.1 apart_y) xs inside.1 apart.0)
     (pairs_moved X size xs pos _ _ apart.0 apart.1) in
     omega (arith, C.sum_by-cons size x xs, rest, inside.0)
 
@@ -59,7 +59,7 @@ pack_around {X} size xs pos a b p q h1 h2 h3 inside apart free =
     let moved : X → ℕ = λ y. shift p _ _ in
     let away : Each (λ y. Misses p (q - p) (pos y) (pos y + size y)) xs = Each-map _ _ (λ y f. turned p q _ _ h2 f) xs free in
     let rest = pack size xs moved a _ (omega arith)
-    (Each-both _ _ _ (λ y i f. shift_in p (q - p) a b (pos y) (size y) h1 (omega arith) i.0 i.1 f) xs inside away)
+    (Each-both _ _ _ (λ y i f. shift_in p (q - p) a b (pos y) _ h1 (omega arith) i.0 i.1 f) xs inside away)
     (pairs_moved X size xs pos p _ away apart) in
     omega (arith, rest)
   where

@@ -103,8 +103,8 @@ block_member heap x is =
 
 pub member_block : (heap : Heap) (x : Block) → Member x (blocks heap) → IsBlockOf heap x
 member_block heap x m =
-    let at = member_mapped (block_of _) (finmap.entries _) x m in
-    from at.0.0 at.0.1 at.1 at.0.1.bytes refl at.2
+    let at = member_mapped _ _ x m in
+    from at.0.0 at.0.1 at.1 _ refl at.2
   where
     block_is : (id : ℕ) (o : Object) → option_map (λ bytes. record { id = id; at = unwrap_or (finmap.get heap.places id) 0; size = length bytes; hold = hold_of_object o }) o.bytes ≡ Some x
         → option_map (λ bytes. block_from heap.places id o bytes) o.bytes ≡ Some x
@@ -112,15 +112,15 @@ member_block heap x m =
 
     from : (id : ℕ) (o : Object) → Member (id, o) (finmap.entries heap.objects) → (b : Option (List ℕ)) → o.bytes ≡ b
         → option_map (λ bytes. record { id = id; at = unwrap_or (finmap.get heap.places id) 0; size = length bytes; hold = hold_of_object o }) o.bytes ≡ Some x → IsBlockOf heap x
-    from id o n None e h = let none : ◌≡◌ {A = Option Block} None (Some x) = ap (option_map (λ (bytes : List ℕ). block_from heap.places id o bytes)) (sym e) ∙ block_is id o h in cc
+    from id o n None e h = let none : ◌≡◌ {A = Option Block} None (Some x) = ap (option_map (λ (bytes : List ℕ). block_from _ id o bytes)) (sym e) ∙ block_is id o h in cc
     from id o n (Some bytes) e h =
-        let y = block_from heap.places id o bytes in
-        let some : ◌≡◌ {A = Option Block} (Some y) (Some x) = ap (option_map (λ (bytes : List ℕ). block_from heap.places id o bytes)) (sym e) ∙ block_is id o h in
+        let y = block_from _ id o bytes in
+        let some : ◌≡◌ {A = Option Block} (Some y) (Some x) = ap (option_map (λ (bytes : List ℕ). block_from _ id o bytes)) (sym e) ∙ block_is id o h in
         let same : y ≡ x = cc in
         subst (IsBlockOf heap) same (record {
           object = o;
           bytes = bytes;
-          is_there = C.get-entries heap.objects id ∙ member_found (finmap.entries _) id o (keys_rise _ (C.entries_sorted _)) n;
+          is_there = C.get-entries _ id ∙ member_found _ id o (keys_rise _ (C.entries_sorted _)) n;
           has_bytes = e;
           place = refl;
           size = refl;
@@ -140,7 +140,7 @@ blocks_rise places [] h = tt
 blocks_rise places (e ∷ es) h =
     let rest : EachPair (λ x y. x.id < y.id) (filter_map (block_of places) es) = blocks_rise places es h.1 in
     let above : (y : Block) → Member y (filter_map (block_of places) es) → e.0 < y.id = λ y m.
-    let from = member_mapped (block_of places) es y m in
+    let from = member_mapped _ es y m in
     omega (arith, Each-at (λ d. e.0 < d.0) es h.0 from.0 from.1, block_of_id places from.0 y from.2) in
     elim (block_of places e) as (λ o. block_of places e ≡ o → EachPair (λ x y. x.id < y.id) (cons_option o (filter_map (block_of places) es))) [
       | None ↦ λ _. rest

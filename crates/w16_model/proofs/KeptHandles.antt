@@ -272,7 +272,7 @@ module _ (old : Handles) (is : AreHandles old) where
 
 -- each far access keeps what holds of handles
 pub far_law : C.FarLaw
-far_law old new (Read pointer count) answer is command step = subst AreHandles (sym step.1) (read_handles old is (selector_in _) (offset_in _) count)
+far_law old new (Read pointer count) answer is command step = subst AreHandles (sym step.1) (read_handles old is _ _ count)
 far_law old new (Write pointer bytes) answer is command step = subst AreHandles (sym step.1) (write_handles old is (selector_in pointer) (offset_in pointer) bytes command)
 far_law old new (Fill pointer count byte) answer is command step =
     subst AreHandles (sym step.1) (write_handles old is (selector_in pointer) (offset_in pointer) (C.repeated count byte) (All-repeated count byte command))

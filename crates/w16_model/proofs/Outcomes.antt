@@ -51,7 +51,7 @@ pub address_law : C.AddressLaw
 address_law old new is k = (
   (λ h options o order step. record {
     pinned = λ q other pinned. still old is _ _ new step q
-        (λ x e held. stays_other h options x (λ same. other (ap Some (sym same ∙ e))) (or_left (is_pinned x) (not _) (pinned_block x _ pinned held)));
+        (λ x e held. stays_other h options x (λ same. other (ap Some (sym same ∙ e))) (or_left _ (not _) (pinned_block x _ pinned held)));
     unmoved = λ none q other. still old is _ _ new step q (λ x e held. stays_other h options x (λ same. other (ap Some (sym same ∙ e))) (or_right _ _ none));
   }),
   (λ step. record {

@@ -121,7 +121,7 @@ module _ (m : FinMap nat_cmp Attributes) where
       turn (Some q) e = e ∙ ap Some (one_owner slots are slot q first (owner_is slot q e) lies)
 
 pub owner_law : C.OwnerLaw
-owner_law handles slot first is = (owner_is _ slot first, is_owner _ handles.slots is.runs slot first)
+owner_law handles slot first is = (owner_is _ slot first, is_owner _ _ is.runs slot first)
 
 -- What changes.
 

@@ -7,9 +7,9 @@ pub use Rattle.std.proofs.lemmas.List.Elements.{All-from_get_or}
 pub use Rattle.std.proofs.raw_atomic.Walks.{proved}
 pub use Rattle.std.specs.Prelude.{Vec}
 pub use Rattle.std.specs.Vec.{with_items}
-pub use Rattle.w16_model.proofs.Common.{All, List, [], ap, append_assoc, arith, common_steps, drop, drop-drop, drop-take, drop_at, get_or, length, length-take-le, part, put_part, refl, rules, subst, sym, take, take-take, take_at, ℕ, ◌++◌, ◌+◌, ◌-◌, ◌<◌, ◌∙◌, ◌∷◌, ◌≡◌, ◌≤◌, ◌⊎◌}
+pub use Rattle.w16_model.proofs.Common.{All, List, [], ap, append_assoc, arith, common_steps, drop, drop-drop, drop_at, get_or, length, length-take-le, part, put_part, refl, rules, subst, sym, take, take_at, ℕ, ◌++◌, ◌+◌, ◌-◌, ◌<◌, ◌∙◌, ◌∷◌, ◌≡◌, ◌≤◌, ◌⊎◌}
 unfoldable pub use Rattle.w16_model.proofs.Common.{repeated}
-pub use Rattle.w16_model.proofs.Parts.{drop-put_part, length-part, length-put_part, part_below, take-put_part}
+pub use Rattle.w16_model.proofs.Parts.{drop-put_part, length-part, part_below, take-put_part}
 pub use Rattle.w16_region.specs.Bytes.{counted, lengths}
 unfoldable pub use Rattle.w16_region.specs.Bytes.{word_in}
 pub use Rattle.w16_region.specs.declared.framed.Framed.{Framed}

@@ -5,7 +5,7 @@ pub use Rattle.std.proofs.lemmas.List.{drop_more}
 pub use Rattle.std.proofs.lemmas.List.Elements.{All-cons, All-head, All-more, All-nil, All-tail}
 pub use Rattle.std.proofs.lemmas.List.FromFn.{fill_by_all, get_or-map-range_with_len, length-map-range_with_len}
 pub use Rattle.std.specs.Prelude.{OnOk, count_by}
-pub use Rattle.w16_ne.proofs.Common.{All, AllByRecursion, Bool, List, Reading, Tables, [], ap, append-nil, append_assoc, arith, bit_and, bytes_of, bytes_or, common_steps, cond, drop, drop_of_length-le, each}
+pub use Rattle.w16_ne.proofs.Common.{All, AllByRecursion, Bool, List, Reading, Tables, [], ap, append-nil, append_assoc, arith, bit_and, bytes_or, cond, drop, drop_of_length-le, each}
 pub use Rattle.w16_ne.proofs.Common.{err_from_is_err_and, false, get_or, get_or-drop, get_or_past, inl, inr, length, list_any, max, nat_eq, nat_le, nat_lt, nat_tests, not, reaches, refl, rounded, rules, segment_count}
 pub use Rattle.w16_ne.proofs.Common.{segment_table, shift_of, slice_get, subst, suc, sum_by-cons, sym, tables_of, take, take_all, true, vec_len, word_of, zero, ℕ, ◌&&◌, ◌*◌, ◌++◌, ◌+◌, ◌-◌, ◌<◌, ◌||◌, ◌∙◌, ◌∷◌, ◌≡◌}
 pub use Rattle.w16_ne.proofs.Common.{◌≢◌, ◌≤◌, ◌⊎◌}
@@ -21,7 +21,7 @@ pub use Rattle.w16_reloc.specs.Law.{IsFar}
 pub use Rattle.w16_reloc.specs.Naming.{chain_from, image_of, naming, offsets_of}
 pub use Rattle.w16_reloc.specs.Records.{IsRecord, Offer, is_named}
 unfoldable pub use Rattle.w16_reloc.specs.Records.{record_at, target_at}
-pub use Rattle.w16_reloc.specs.Segments.{Answers, Held, LiesIn, Refuses, any_offer, data_of, is_reloc_device, offer_in, offer_of, records_of}
+pub use Rattle.w16_reloc.specs.Segments.{Answers, Held, LiesIn, Refuses, any_offer, data_of, offer_in, offer_of, records_of}
 unfoldable pub use Rattle.w16_reloc.specs.Segments.{checked}
 pub use Rattle.w16_reloc.specs.Sites.{AreApart, AreSound, Site, covers, meets}
 pub use Rattle.w16_reloc.specs.Sound.{AreNamed, AreRecords, IsChain, IsSound, IsSoundSegment, Names, all_sites, chain_width, of_width, value_width, width_of}

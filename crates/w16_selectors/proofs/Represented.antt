@@ -20,7 +20,7 @@ unset_reaches d kind number is = subst (λ d. Reaches (Some d)) (sym is) (omega 
 none_at : (n slot : ℕ) → descriptor_at (replicate n None) slot ≡ None
 none_at n slot = elim (cases_lt slot n) [
   | inl lt ↦ get_or-replicate n slot None None lt
-  | inr le ↦ get_or_past (replicate n None) slot None (rw (length-replicate {A = Option Descriptor} n None) le)
+  | inr le ↦ get_or_past _ slot None (rw (length-replicate {A = Option Descriptor} n None) le)
 ]
 
 marks_none : (n : ℕ) → replicate n 0 ≡ map mark_of (replicate n None)
@@ -45,7 +45,7 @@ at_set table slot k entry = elim (cases_eq k slot) [
     | inl lt ↦ inl (same, subst (λ (i : ℕ). descriptor_at (set table slot entry) i ≡ entry) (sym same) (get_or-set_same table slot entry None lt))
     | inr le ↦
         let n = length-set table slot entry in
-        inr (get_or_past (set table slot entry) k None (omega arith) ∙ sym (get_or_past table k None (omega arith)))
+        inr (get_or_past _ k None (omega arith) ∙ sym (get_or_past table k None (omega arith)))
   ]
   | inr other ↦ inr (get_or-set_other table slot k entry None other)
 ]
@@ -69,7 +69,7 @@ SelectorsInvariant-set table marks slot entry kept low reaches = record {
 
 -- a taken slot isn't below the first
 pub taken_above : (table : DescriptorTable) (marks : List ℕ) (slot : ℕ) → SelectorsInvariant table marks → IsSome (descriptor_at table slot) → FIRST_SLOT ≤ slot
-taken_above table marks slot kept taken = elim (cases_lt slot FIRST_SLOT) [
+taken_above table marks slot kept taken = elim (cases_lt slot _) [
   | inl lt ↦ absurd (false≢true (ap is_some (sym (kept.unused slot lt)) ∙ taken))
   | inr le ↦ le
 ]
@@ -83,8 +83,8 @@ pub SelectorsInvariant-written : (table : DescriptorTable) (marks : List ℕ) (s
     → SelectorsInvariant table marks → IsSome (descriptor_at table slot) → Reaches (Some d) → SelectorsInvariant (set table slot (Some d)) marks
 SelectorsInvariant-written table marks slot d kept taken reaches =
     let above = taken_above table marks slot kept taken in
-    let all = SelectorsInvariant-set table marks slot (Some d) kept (λ lt. absurd (omega arith)) reaches in record {
-      marked = kept.marked ∙ sym (map-set_same mark_of table slot (Some d) None (sym (mark_of_taken (descriptor_at table slot) taken)));
+    let all = SelectorsInvariant-set table marks slot _ kept (λ lt. absurd (omega arith)) reaches in record {
+      marked = kept.marked ∙ sym (map-set_same mark_of table slot _ None (sym (mark_of_taken _ taken)));
       some = all.some;
       few = all.few;
       unused = all.unused;
@@ -96,8 +96,8 @@ SelectorsInvariant-written table marks slot d kept taken reaches =
 -- a slot that is taken, or set to a descriptor, is taken
 pub stays_taken : (table : DescriptorTable) (slot k : ℕ) (d : Descriptor) → slot < length table → (k ≡ slot) ⊎ IsSome (descriptor_at table k) → IsSome (descriptor_at (set table slot (Some d)) k)
 stays_taken table slot k d lt was = elim (cases_eq k slot) [
-  | inl same ↦ ap is_some (ap (descriptor_at (set table slot (Some d))) same ∙ get_or-set_same table slot (Some d) None lt)
-  | inr other ↦ ap is_some (get_or-set_other table slot k (Some d) None other) ∙ (elim was [ inl same ↦ absurd (other same) | inr there ↦ there ])
+  | inl same ↦ ap is_some (ap (descriptor_at _) same ∙ get_or-set_same table slot _ None lt)
+  | inr other ↦ ap is_some (get_or-set_other table slot k _ None other) ∙ (elim was [ inl same ↦ absurd (other same) | inr there ↦ there ])
 ]
 
 -- where a slot is set to a descriptor

@@ -44,31 +44,31 @@ first_marked : (table : DescriptorTable) (marks : List ℕ) (from to n b : ℕ) 
     → (r : Option ℕ) → IsFirstByte (is_byte b) (take n (drop from marks)) r → IsFirst Q from to (option_map (λ k. from + k) r)
 first_marked table marks from to n b Q kept long inside there back r h =
     let same : length marks ≡ length table = ap length kept.marked ∙ length-map table mark_of in
-    let cut : length (take n (drop from marks)) ≡ n = length-take-le n (drop from marks) (rw (length-drop from marks) (omega arith)) in
+    let cut : length (take n (drop from marks)) ≡ n = length-take-le n _ (rw (length-drop from marks) (omega arith)) in
     let h' : IsFirst (Passes (is_byte b) (take n (drop from marks))) 0 n r = subst (λ (m : ℕ). IsFirst (Passes (is_byte b) (take n (drop from marks))) 0 m r) cut h in
-    first_behind (Passes (is_byte b) (take n (drop from marks))) Q from to n long
-    (λ k lt passes. there (from + k) (omega arith) (omega arith) (sym (read k lt) ∙ eqb-true _ b passes))
-    (λ k lt q. eq-eqb _ b (read k lt ∙ back (from + k) q)) r h'
+    first_behind _ Q from to n long
+    (λ k lt passes. there _ (omega arith) (omega arith) (sym (read k lt) ∙ eqb-true _ b passes))
+    (λ k lt q. eq-eqb _ b (read k lt ∙ back _ q)) r h'
   where
     read : (k : ℕ) → k < n → get_or (take n (drop from marks)) k 0 ≡ mark_of (descriptor_at table (from + k))
-    read k lt = get_or-take n (drop from marks) k 0 lt ∙ get_or-drop from marks k 0 ∙ mark_at table marks (from + k) kept
+    read k lt = get_or-take n _ k 0 lt ∙ get_or-drop from marks k 0 ∙ mark_at table marks _ kept
 
 pub first_free : (table : DescriptorTable) (marks : List ℕ) (from : ℕ)
     → SelectorsInvariant table marks → FIRST_SLOT ≤ from → from ≤ length table
     → (r : Option ℕ) → IsFirstByte (is_byte 0) (take (length marks - from) (drop from marks)) r → IsFirst (IsUntaken table) from (length table) (option_map (λ k. from + k) r)
 first_free table marks from kept above inside r h =
     let same : length marks ≡ length table = ap length kept.marked ∙ length-map table mark_of in
-    first_marked table marks from (length table) (length marks - from) 0 (IsUntaken table) kept (omega arith) (omega arith)
-    (λ slot low high e. (omega arith, high, free_mark (descriptor_at table slot) e))
+    first_marked table marks from _ _ 0 _ kept (omega arith) (omega arith)
+    (λ slot low high e. (omega arith, high, free_mark _ e))
     (λ slot free. ap mark_of free.2) r h
 
 pub first_taken : (table : DescriptorTable) (marks : List ℕ) (from to : ℕ)
     → SelectorsInvariant table marks → from ≤ to → to ≤ length table
     → (r : Option ℕ) → IsFirstByte (is_byte 1) (take (to - from) (drop from marks)) r → IsFirst (λ slot. IsSome (descriptor_at table slot)) from to (option_map (λ k. from + k) r)
 first_taken table marks from to kept order inside r h =
-    first_marked table marks from to (to - from) 1 (λ slot. IsSome (descriptor_at table slot)) kept (omega arith) inside
-    (λ slot low high e. taken_mark (descriptor_at table slot) e)
-    (λ slot taken. mark_of_taken (descriptor_at table slot) taken) r h
+    first_marked table marks from to _ 1 (λ slot. IsSome _) kept (omega arith) inside
+    (λ slot low high e. taken_mark _ e)
+    (λ slot taken. mark_of_taken _ taken) r h
 
 -- No run begins below a place. A taken slot from there on, so near that each run up to it would reach it, puts the place behind it, and free
 -- slots only come from the next one on.
@@ -82,7 +82,7 @@ no_run table from taken next count below low near is none lower lt run = elim (c
     | inl behind ↦ none lower (omega arith) lt (let e : lower + 0 ≡ lower = omega arith in subst (IsUntaken table) e (run.1 0 (omega arith)))
     | inr late ↦
         let e : lower + (taken - lower) ≡ taken = omega arith in
-        let free : IsUntaken table taken = subst (IsUntaken table) e (run.1 (taken - lower) (omega arith)) in
+        let free : IsUntaken table taken = subst (IsUntaken table) e (run.1 _ (omega arith)) in
         false≢true (ap is_some (sym free.2) ∙ is)
   ]
 ]
@@ -94,7 +94,7 @@ none_left table from count below few first run = elim (cases_lt first from) [
   | inr after ↦ elim (cases_lt first (length table)) [
     | inl inside ↦
         let e : first + (length table - first) ≡ length table = omega arith in
-        let free : IsUntaken table (length table) = subst (IsUntaken table) e (run.1 (length table - first) (omega arith)) in
+        let free : IsUntaken table (length table) = subst (IsUntaken table) e (run.1 _ (omega arith)) in
         absurd (omega (arith, free.1))
     | inr past ↦ let free : IsUntaken table (first + 0) = run.1 0 (omega arith) in absurd (omega (arith, free.1))
   ]

@@ -88,7 +88,7 @@ pub record IsHighest (bits end t : ℕ) : Type 0 where
 pub highest_bit : (bits end t : ℕ) → 2 ^ t ≤ 2 * (bits % 2 ^ end) + 1 → 2 * (bits % 2 ^ end) + 1 < 2 * 2 ^ t → IsHighest bits end t
 highest_bit bits end t low high =
     let cut = bits % 2 ^ end in
-    let whole : (bits / 2 ^ end) * 2 ^ end + cut ≡ bits = ap (λ p. p + cut) (mul_comm (bits / 2 ^ end) (2 ^ end)) ∙ div-add-mod bits (2 ^ end) in
+    let whole : (bits / 2 ^ end) * 2 ^ end + cut ≡ bits = ap (λ p. p + cut) (mul_comm _ _) ∙ div-add-mod bits _ in
     let small : cut < 2 ^ end = mod-lt bits (pow_pos end) in
     let same : (j : ℕ) → j < end → bit_at bits j ≡ bit_at cut j = λ j lt. ap (λ b. bit_at b j) (sym whole) ∙ C.bit_at_cat_low (bits / 2 ^ end) end cut j lt in
     let n : end + 1 ≡ suc end = omega arith in let next : 2 ^ (end + 1) ≡ 2 ^ end * 2 = ap (λ m. 2 ^ m) n ∙ pow-suc 2 end in
@@ -97,6 +97,6 @@ highest_bit bits end t low high =
       here = λ some.
           let u = t - 1 in let is : t ≡ suc u = omega arith in let twice : 2 ^ t ≡ 2 ^ u * 2 = ap (λ m. 2 ^ m) is ∙ pow-suc 2 u in let z : u - u ≡ 0 = omega arith in
           let front : cut ≡ 1 * 2 ^ u + (cut - 2 ^ u) = omega arith in
-          same u (omega arith) ∙ (ap (λ c. bit_at c u) front ∙ (C.bit_at_cat_high 1 u (cut - 2 ^ u) u (omega arith) (omega arith) ∙ ap (bit_at 1) z));
+          same u (omega arith) ∙ (ap (λ c. bit_at c u) front ∙ (C.bit_at_cat_high 1 u _ u (omega arith) (omega arith) ∙ ap (bit_at 1) z));
       above = λ j from to. same j to ∙ C.bit_at_above cut t j (omega arith) from;
     }

@@ -11,7 +11,7 @@ use Rattle.w16_tree.proofs.Tree.{below_nodes, reached, begin_rising, begin_end}
 pub zero_read : (n k : ℕ) → slice_index (replicate n 0) k ≡ 0
 zero_read n k = elim (cases_lt k n) [
   | inl lt ↦ M.get_or-replicate n k 0 0 lt
-  | inr le ↦ M.get_or_past (replicate n 0) k 0 (let zs : List ℕ = replicate n 0 in let e : length zs ≡ n = M.length-replicate n 0 in omega arith)
+  | inr le ↦ M.get_or_past _ k 0 (let zs : List ℕ = replicate n 0 in let e : length zs ≡ n = M.length-replicate n 0 in omega arith)
 ]
 
 -- zeros at the end read as what isn't there
@@ -21,17 +21,17 @@ padded (x ∷ xs) n zero = refl
 padded (x ∷ xs) n (suc k) = padded xs n k
 
 pub read : (len leaves k : ℕ) (nodes : List ℕ) → k < len → slice_index (list_of len leaves nodes) k ≡ slice_index nodes (leaves + k)
-read len leaves k nodes lt = M.get_or-take len (drop leaves nodes ++ replicate len 0) k 0 lt ∙ padded (drop leaves nodes) len k ∙ get_or-drop leaves nodes k 0
+read len leaves k nodes lt = M.get_or-take len _ k 0 lt ∙ padded _ len k ∙ get_or-drop leaves nodes k 0
 
 pub list_zeros : (len leaves n : ℕ) → list_of len leaves (replicate n 0) ≡ replicate len 0
 list_zeros len leaves n =
     ap (λ xs. take len (xs ++ replicate len 0)) (M.drop-replicate leaves n 0)
-    ∙ ap (take len) (M.replicate-append-replicate (n - leaves) len 0)
+    ∙ ap (take len) (M.replicate-append-replicate _ len 0)
     ∙ M.take-replicate len (n - leaves + len) 0 (omega arith)
 
 -- a place whose number is not 0 is in the list
 pub some_inside : (nodes : List ℕ) (p : ℕ) → 0 < slice_index nodes p → p < length nodes
-some_inside nodes p some = elim (cases_lt p (length nodes)) [ inl lt ↦ lt | inr le ↦ let z = M.get_or_past nodes p 0 le in absurd (omega arith) ]
+some_inside nodes p some = elim (cases_lt p _) [ inl lt ↦ lt | inr le ↦ let z = M.get_or_past nodes p 0 le in absurd (omega arith) ]
 
 -- a row with a number that is not 0 is in the list, which is in whole rows
 pub row_inside : (nodes : List ℕ) (at p : ℕ) → length nodes % 16 ≡ 0 → at % 16 ≡ 0 → at ≤ p → p < at + 16 → 0 < slice_index nodes p → at + 16 ≤ length nodes
@@ -43,7 +43,7 @@ IsTree-zeros height len leaves n wide room rows long = let zs : List ℕ = repli
   room = room;
   rows = omega arith;
   long = omega arith;
-  rest = λ k le. zero_read n (leaves + k);
+  rest = λ k le. zero_read n _;
   upheld = λ j lt. let z = zero_read n j in record {
     bound = λ p from to. let a = zero_read n p in omega arith;
     met = (row j, omega arith, omega arith, zero_read n (row j) ∙ sym z);
@@ -53,7 +53,7 @@ IsTree-zeros height len leaves n wide room rows long = let zs : List ℕ = repli
 pub IsMost-along : (f g : ℕ → ℕ) (at m : ℕ) → ((p : ℕ) → at ≤ p → p < at + 16 → f p ≡ g p) → IsMost f at m → IsMost g at m
 IsMost-along f g at m same most = record {
   bound = λ p from to. let b = most.bound p from to in let e = same p from to in omega arith;
-  met = (most.met.0, most.met.1, most.met.2, sym (same most.met.0 most.met.1 most.met.2) ∙ most.met.3);
+  met = (most.met.0, most.met.1, most.met.2, sym (same _ most.met.1 most.met.2) ∙ most.met.3);
 }
 
 module _ (height len leaves : ℕ) (nodes : List ℕ) (tree : IsTree height len leaves nodes) where
@@ -140,7 +140,7 @@ module _ (height len leaves : ℕ) (nodes : List ℕ) (tree : IsTree height len 
 
 -- to put back the number that was there leaves all as it was
 put_back : (nodes : List ℕ) (i y : ℕ) → nodes ≡ set (set nodes i y) i (slice_index nodes i)
-put_back nodes i y = sym (M.set-set nodes i y (slice_index nodes i) ∙ M.set-get_or nodes i 0)
+put_back nodes i y = sym (M.set-set nodes i y _ ∙ M.set-get_or nodes i 0)
 
 -- where a leaf changed, the nodes are upheld with the number that was there
 pub upheld_but : (leaves i y : ℕ) (nodes : List ℕ) → IsUpheld leaves (number nodes) → leaves ≤ i
@@ -157,7 +157,7 @@ list_lengthened len leaves n nodes le =
     let turned : ns ++ ls ≡ ls ++ ns = M.replicate-append-replicate n len 0 ∙ ap (λ (k : ℕ). replicate k 0) (omega arith) ∙ sym (M.replicate-append-replicate len n 0) in
     ap (λ (xs : List ℕ). take len (xs ++ ls)) (M.drop-append-le leaves nodes ns le)
     ∙ ap (take len) (M.append_assoc d ns ls ∙ ap (λ (xs : List ℕ). d ++ xs) turned ∙ sym (M.append_assoc d ls ns))
-    ∙ M.take-append-le len (d ++ ls) ns (omega arith)
+    ∙ M.take-append-le len _ ns (omega arith)
 
 take_set : (len k y : ℕ) (xs : List ℕ) → take len (set xs k y) ≡ set (take len xs) k y
 take_set zero k y xs = refl
@@ -175,21 +175,21 @@ list_set len leaves k y nodes new lt same =
     let d = M.length-drop leaves nodes in
     ap (λ xs. take len (xs ++ replicate len 0)) (same ∙ M.drop-set-add leaves nodes k y)
     ∙ ap (take len) (sym (set_append k y (drop leaves nodes) (replicate len 0) (omega arith)))
-    ∙ take_set len k y (drop leaves nodes ++ replicate len 0)
+    ∙ take_set len k y _
 
 -- The maximum by a fold: a bound that is reached.
 fold_most : (xs : List ℕ) (a m : ℕ) → a ≤ m → ((k : ℕ) → k < length xs → slice_index xs k ≤ m) → fold max a xs ≤ m
 fold_most [] a m le all = le
-fold_most (x ∷ xs) a m le all = let one : x ≤ m = all 0 (omega arith) in fold_most xs (max a x) m (omega arith) (λ k lt. all (suc k) (omega arith))
+fold_most (x ∷ xs) a m le all = let one : x ≤ m = all 0 (omega arith) in fold_most xs _ m (omega arith) (λ k lt. all (suc k) (omega arith))
 
 fold_from : (xs : List ℕ) (a : ℕ) → a ≤ fold max a xs
 fold_from [] a = omega arith
-fold_from (x ∷ xs) a = let r : max a x ≤ fold max (max a x) xs = fold_from xs (max a x) in omega arith
+fold_from (x ∷ xs) a = let r : max a x ≤ fold max (max a x) xs = fold_from xs _ in omega arith
 
 fold_each : (xs : List ℕ) (a k : ℕ) → k < length xs → slice_index xs k ≤ fold max a xs
 fold_each [] a k lt = absurd (omega arith)
-fold_each (x ∷ xs) a zero lt = let r : max a x ≤ fold max (max a x) xs = fold_from xs (max a x) in omega arith
-fold_each (x ∷ xs) a (suc k) lt = fold_each xs (max a x) k (omega arith)
+fold_each (x ∷ xs) a zero lt = let r : max a x ≤ fold max (max a x) xs = fold_from xs _ in omega arith
+fold_each (x ∷ xs) a (suc k) lt = fold_each xs _ k (omega arith)
 
 pub max_is : (height len leaves m : ℕ) (nodes : List ℕ) → IsTree height len leaves nodes → IsMost (number nodes) 0 m → m ≡ fold max 0 (list_of len leaves nodes)
 max_is height len leaves m nodes tree top =
@@ -219,7 +219,7 @@ max_is height len leaves m nodes tree top =
 pub most_more : (f : ℕ → ℕ) (at k most new : ℕ) → k < 16 → new ≡ max most (f (at + k)) → ((p : ℕ) → at ≤ p → p < at + k → f p ≤ most) → (p : ℕ) × (at ≤ p) × (p < at + 16) × (f p ≡ most)
     → ((p : ℕ) → at ≤ p → p < at + (k + 1) → f p ≤ new) × ((p : ℕ) × (at ≤ p) × (p < at + 16) × (f p ≡ new))
 most_more f at k most new lt is bound met = (
-  λ p from to. elim (cases_lt p (at + k)) [ inl less ↦ let b = bound p from less in omega arith | inr le ↦ let e : p ≡ at + k = omega arith in rw e (omega arith) ],
+  λ p from to. elim (cases_lt p _) [ inl less ↦ let b = bound p from less in omega arith | inr le ↦ let e : p ≡ at + k = omega arith in rw e (omega arith) ],
   elim (cases_lt most (f (at + k))) [ inl less ↦ (at + k, omega arith, omega arith, omega arith) | inr le ↦ let e = met.3 in (met.0, met.1, met.2, omega arith) ],
 )
 

@@ -18,7 +18,7 @@ get-drop (suc n) (x ∷ xs) i = get-drop n xs i ∙ ap (slice_get (x ∷ xs)) (l
 
 -- in a part
 pub get-part : (bytes : List ℕ) (at n i : ℕ) → i < n → slice_get (part bytes at n) i ≡ slice_get bytes (at + i)
-get-part bytes at n i lt = get-take n (drop at bytes) i lt ∙ get-drop at bytes i
+get-part bytes at n i lt = get-take n _ i lt ∙ get-drop at bytes i
 
 -- a byte of a range
 get-taken : (n : ℕ) (xs : List ℕ) (i : ℕ) → is_some (slice_get (take n xs) i) ≡ true → slice_get (take n xs) i ≡ slice_get xs i
@@ -28,7 +28,7 @@ get-taken (suc n) (x ∷ xs) zero t = refl
 get-taken (suc n) (x ∷ xs) (suc i) t = get-taken n xs i t
 
 pub get-range : (bytes : List ℕ) (at n i : ℕ) → is_some (slice_get (C.slice_range bytes at (at + n)) i) ≡ true → slice_get (C.slice_range bytes at (at + n)) i ≡ slice_get bytes (at + i)
-get-range bytes at n i t = get-taken (at + n - at) (drop at bytes) i t ∙ get-drop at bytes i
+get-range bytes at n i t = get-taken _ _ i t ∙ get-drop at bytes i
 
 -- a number with a byte is inside
 pub inside : (bytes : List ℕ) (i : ℕ) → is_some (slice_get bytes i) ≡ true → i < length bytes
@@ -103,5 +103,5 @@ pub agree_resized : (zeroed : Bool) (n : ℕ) (before after : Option (List ℕ))
 agree_resized zeroed n None after r = agree_new refl
 agree_resized zeroed n (Some before) None r = absurd r
 agree_resized zeroed n (Some before) (Some after) r = record {
-  one = λ i p q. sym (get-take (length before) after i (inside before i p)) ∙ ap (λ l. slice_get l i) r.same ∙ get-take n before i (omega (arith, inside after i q, r.long));
+  one = λ i p q. sym (get-take _ after i (inside before i p)) ∙ ap (λ l. slice_get l i) r.same ∙ get-take n before i (omega (arith, inside after i q, r.long));
 }

@@ -38,7 +38,7 @@ object_resized n zero {o} old new id q e there r =
 pub object_absent : (old : Heap) (id q : ℕ) → HeapsAgree old (C.absent old id) q
 object_absent old id q = elim (cases_eq q id) [
   | inl e ↦ agree_gone (ap (bytes_at (C.absent old id)) e ∙ ap bytes_in (K.get-update_same old.objects id (λ (o : Object). record o { bytes = None })) ∙ bare (object_at old id))
-  | inr d ↦ same_object (K.get-update_other old.objects id (λ (o : Object). record o { bytes = None }) q d)
+  | inr d ↦ same_object (K.get-update_other _ id (λ (o : Object). record o { bytes = None }) q d)
 ]
   where
     bare : (p : Option Object) → bytes_in (C.option_map (λ (o : Object). let b : Object = record o { bytes = None } in b) p) ≡ None

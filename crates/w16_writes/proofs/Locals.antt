@@ -111,7 +111,7 @@ local_agrees old new is command reply step at after c e q =
 -- A byte of a local object is one of its segment, so far behind the near pointer.
 pub segment_byte : (t : Table) → C.IsTable t → (memory : List ℕ) → t.hi ≤ C.length memory → (id offset : ℕ) → is_some (byte_in (bytes_at (heap_in t memory) id) offset) ≡ true
     → (at : ℕ) × (finmap.get (heap_in t memory).places id ≡ Some at) × (byte_in (bytes_at (heap_in t memory) id) offset ≡ slice_get memory (at + offset))
-segment_byte t is memory whole id offset some = turn (C.entry_at t id) (C.block_with t.blocks id) (ap bytes_in (C.object_is t is memory whole id) ∙ bytes_are (C.entry_at t id)) (place_is t is memory whole id)
+segment_byte t is memory whole id offset some = turn (C.entry_at t id) (C.block_with _ id) (ap bytes_in (C.object_is t is memory whole id) ∙ bytes_are _) (place_is t is memory whole id)
   where
     bytes_of : Option Entry → Option Block → Option (List ℕ)
     bytes_of None b = None

@@ -27,7 +27,7 @@ promised_step honest format old new command reply is known step =
       ds = (spares.ds, tt);
       fewest = (step_fewest honest format old event is step, tt);
       written = written;
-      reads_back = reads_back_law old (event ∷ []) written;
+      reads_back = reads_back_law old _ written;
     }
 
 -- one run, and then another
@@ -51,11 +51,11 @@ module _ (steps : Steps) (old mid : World) (events more : List Event) (run : Run
       }
 
 pub run_promises_law : (honest : Type 0) → RunPromisesLaw honest
-run_promises_law honest format old new events is known run = each old events is (Each-from_All (λ (e : Event). IsCommand e.command) events known) run
+run_promises_law honest format old new events is known run = each old events is (Each-from_All (λ (e : Event). IsCommand _) events known) run
   where
     each : (now : World) (events : List Event) → IsWorld now → Each (λ (e : Event). IsCommand e.command) events → Run (Step honest format) now events new → Promises now events
     each now [] is known run = promised_none now
     each now (event ∷ events) is known run =
-        promised_append (Step honest format) now event.after (event ∷ []) events (run.0, refl)
-        (promised_step honest format now event.after event.command event.reply is known.0 run.0)
-        (each event.after events (world_law honest format now event.after event.command event.reply is known.0 run.0) known.1 run.1)
+        promised_append (Step honest format) now _ (event ∷ []) events (run.0, refl)
+        (promised_step honest format now _ _ _ is known.0 run.0)
+        (each _ events (world_law honest format now _ _ _ is known.0 run.0) known.1 run.1)

@@ -18,9 +18,9 @@ undisturbed p byte w (event ∷ between) more has free keeps = undisturbed (posi
 from_write : (w : World) (before between after : List Event) (writing reading : Event) (p : Position) (byte found : ℕ) → AllKeepWritten w (before ++ (writing ∷ (between ++ (reading ∷ after)))) → Writes writing p byte
     → IsUndisturbed p writing.after between → Reads (world_after writing.after between) reading (position_after_all writing.after between p) found → found ≡ byte
 from_write w [] between after writing reading p byte found keeps writes free reads =
-    let r = undisturbed p byte writing.after between (reading ∷ after) (keeps.0.written p byte writes) free keeps.1 in
-    only (r.1.0.read (position_after_all writing.after between p) found reads) r.0
-from_write w (event ∷ before) between after writing reading p byte found keeps writes free reads = from_write event.after before between after writing reading p byte found keeps.1 writes free reads
+    let r = undisturbed p byte _ between _ (keeps.0.written p byte writes) free keeps.1 in
+    only (r.1.0.read _ found reads) r.0
+from_write w (event ∷ before) between after writing reading p byte found keeps writes free reads = from_write _ before between after writing reading p byte found keeps.1 writes free reads
 
 pub reads_back_law : ReadsBackLaw
 reads_back_law old events keeps before between after writing reading p byte found e = from_write old before between after writing reading p byte found (subst (AllKeepWritten old) e keeps)

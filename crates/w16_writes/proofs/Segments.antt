@@ -86,9 +86,9 @@ module _ (answers : Answers) (old : LoadingWorld) (is : IsLoadingWorld old) {com
       in_world w are agree runs g = record { mid = w.handles; agree = agree; runs = runs; made = inl ((access w).0, g.0, far_effect_law w.handles new.handles command (access w).0 are.handles (does w (ap handles_of g.1))) }
 
 far_made : (answers : Answers) (old : LoadingWorld) → IsLoadingWorld old → (command : FarCommand) (reply : Reply) (new : LoadingWorld) → C.FarStep (FetchesFrom Fills answers) old command reply new → Made old command reply new
-far_made answers old is (Read pointer count) reply new step = accessed answers old is (C.far_read (selector_in pointer) (offset_in pointer) count) (selector_in pointer) (λ w e. (refl, e)) step
-far_made answers old is (Write pointer bytes) reply new step = accessed answers old is (C.far_write (selector_in pointer) (offset_in pointer) bytes) (selector_in pointer) (λ w e. (refl, e)) step
-far_made answers old is (Fill pointer count byte) reply new step = accessed answers old is (C.far_write (selector_in pointer) (offset_in pointer) (C.repeated count byte)) (selector_in pointer) (λ w e. (refl, e)) step
+far_made answers old is (Read pointer count) reply new step = accessed answers old is _ _ (λ w e. (refl, e)) step
+far_made answers old is (Write pointer bytes) reply new step = accessed answers old is _ _ (λ w e. (refl, e)) step
+far_made answers old is (Fill pointer count byte) reply new step = accessed answers old is _ _ (λ w e. (refl, e)) step
 
 -- What an access reached.
 module _ {mid new : Handles} {selector end : ℕ} {becomes : ℕ → List ℕ → List ℕ → Type 0} (r : Reaches mid selector end becomes new) where
@@ -201,8 +201,8 @@ resizes_keep old new is command reply step =
     let (answer, says, step) = some_such (C.answer_in reply) step in
     let to = λ (q : ℕ). ap (λ (p : Option Answer). elim p as (λ _. ℕ) [ None ↦ q | Some answer ↦ next_slot old (call_of command) answer new q ]) (sym says) in
     let call = by command answer step in
-    quiet (λ q. subst (λ s. Agree (bytes_at old.heap q) (bytes_at new.heap s)) (to q) (call_agrees old new is (call_of command) answer call q))
-    (λ q. subst (λ s. (s ≡ q) ⊎ (object_at old.heap s ≡ None)) (to q) (goes_free old new is (call_of command) answer call q))
+    quiet (λ q. subst (λ s. Agree (bytes_at old.heap q) (bytes_at new.heap s)) (to q) (call_agrees old new is _ answer call q))
+    (λ q. subst (λ s. (s ≡ q) ⊎ (object_at old.heap s ≡ None)) (to q) (goes_free old new is _ answer call q))
   where
     by : (command : C.ResizeCommand) (answer : Answer) → C.ResizeStep old command answer new → C.CallStep old (call_of command) answer new
     by (C.GlobalReAlloc handle size flags) (Word answer) step = step

@@ -200,5 +200,5 @@ step_law honest format old new (OfLoading command) reply is known step = loading
 step_law honest format old new (C.OfLocals command) reply is known step = record {
   written = λ p byte h. absurd h;
   read = λ p byte h. absurd h;
-  kept = λ p was there out. local_kept old new command reply is (world_law honest format old new (C.OfLocals command) reply is known step) step p.slot p.entry p.offset was there;
+  kept = λ p was there out. local_kept old new command reply is (world_law honest format old new (C.OfLocals command) reply is known step) step p.slot p.entry _ was there;
 }

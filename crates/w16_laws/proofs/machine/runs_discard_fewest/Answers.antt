@@ -2,4 +2,4 @@ use Rattle.w16_machine.proofs.Worlds.{fewest_law}
 use Rattle.w16_laws.proofs.machine.runs_discard_fewest.Goals as goal
 
 pub returns : goal.returns
-returns g c = fewest_law g.S.Store.is_honest
+returns g c = fewest_law _

@@ -2,7 +2,7 @@ use Rattle.w16_machine.proofs.Worlds.{run_files_law, run_world_law}
 use Rattle.w16_laws.proofs.machine.runs_keep_worlds.Goals as goal
 
 pub returns-clause-worlds : goal.returns-clause-worlds
-returns-clause-worlds g c = run_world_law g.S.Store.is_honest
+returns-clause-worlds g c = run_world_law _
 
 pub returns-clause-files : goal.returns-clause-files
-returns-clause-files g c = run_files_law g.S.Store.is_honest
+returns-clause-files g c = run_files_law _

@@ -7,7 +7,7 @@ pub returns-then-next-self-clause-behind : goal.returns-then-next-self-clause-be
 returns-then-next-self-clause-behind g c = λ i at.
     let s = c.self.inside in
     next_none s.cap s.members s.after.items s.before.items c.args.self.now c.self.invariant c.self.view_is
-    c.args.id c.index-next.result.now i (omega arith) c.index-next.ensures
+    _ c.index-next.result.now i (omega arith) c.index-next.ensures
     (elim c.then-next-self.branch [
       | then-next-self-via-then-next-self w ↦ inl w.if-next-self.true
       | then-next-self-via-else-next-self+then-next-id w ↦ inr w.if-next-id.true
@@ -18,4 +18,4 @@ pub returns-clause-behind : goal.returns-clause-behind
 returns-clause-behind g c = λ i at.
     let s = c.self.inside in
     next_some s.cap s.members s.after.items s.before.items c.args.self.now c.self.invariant c.self.view_is
-    c.args.id c.index-next.result.now i (omega arith) c.index-next.ensures c.if-next-self.false at
+    _ _ i (omega arith) c.index-next.ensures c.if-next-self.false at

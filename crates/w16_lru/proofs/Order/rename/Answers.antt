@@ -8,7 +8,7 @@ use Rattle.w16_lru.proofs.Order.rename.Goals as goal
 pub returns-then-behind-id-clause-value : goal.returns-then-behind-id-clause-value
 returns-then-behind-id-clause-value g c =
     let s = c.self.inside in
-    none_there s.cap s.members s.after.items s.before.items c.args.self.now c.self.invariant c.self.view_is c.args.id c.args.to c.index-behind.result.now
+    none_there s.cap s.members _ s.before.items _ c.self.invariant c.self.view_is _ _ _
     (let lt = c.requires.id in let e = ap (λ u. u.cap) c.self.view_is in omega arith) c.index-behind.ensures c.if-behind-id.true
 
 module _ (g : given.Over) (c : goal.After-self-2-1 g) where
@@ -27,16 +27,16 @@ module _ (g : given.Over) (c : goal.After-self-2-1 g) where
 pub invariant_of-self : goal.invariant_of-self
 invariant_of-self g c =
     let s = c.self.inside in
-    renamed_kept s.cap s.members s.after.items s.before.items c.args.self.now c.self.invariant c.self.view_is
+    renamed_kept s.cap _ s.after.items s.before.items c.args.self.now c.self.invariant c.self.view_is
     c.args.id c.args.to c.index-behind.result.now (small g c) c.index-behind.ensures (to_small g c) c.requires.free c.if-behind-id.false c.index-front.ensures
-    (with_items s.after c.relink.new.links).items (with_items s.before c.relink-2.new.links).items (after_is g c) (before_is g c)
+    (with_items s.after _).items (with_items s.before c.relink-2.new.links).items (after_is g c) (before_is g c)
 
 pub returns-clause-value : goal.returns-clause-value
 returns-clause-value g c =
     let s = c.self.inside in
-    renamed_value s.cap s.members s.after.items s.before.items c.args.self.now c.self.invariant c.self.view_is
-    c.args.id c.args.to c.index-behind.result.now (small g c) c.index-behind.ensures (to_small g c) c.requires.free c.if-behind-id.false c.index-front.ensures
-    (with_items s.after c.relink.new.links).items (with_items s.before c.relink-2.new.links).items (after_is g c) (before_is g c)
+    renamed_value s.cap _ s.after.items s.before.items _ c.self.invariant c.self.view_is
+    _ _ c.index-behind.result.now (small g c) c.index-behind.ensures (to_small g c) c.requires.free c.if-behind-id.false c.index-front.ensures
+    (with_items s.after _).items (with_items s.before c.relink-2.new.links).items (after_is g c) (before_is g c)
 
 pub returns-clause-uses : goal.returns-clause-uses
 returns-clause-uses g c = (invariant_of-self g c).uses

@@ -38,16 +38,16 @@ module _ (g : given.Over) (c : goal.After-self-3-1 g) where
 pub invariant_of-self : goal.invariant_of-self
 invariant_of-self g c =
     let s = c.self.inside in
-    M.joined_kept s.cap s.members s.after.items s.before.items c.remove.new.self c.self.invariant c.self.view_is
+    M.joined_kept s.cap _ s.after.items s.before.items c.remove.new.self c.self.invariant c.self.view_is
     c.args.id c.match-end.front (small g c)
-    (with_items s.after c.exchange.new.after).items (with_items s.before c.exchange.new.before).items (after_is g c) (before_is g c) (none g c) c.args.end (is_front g c)
+    (with_items s.after _).items (with_items s.before c.exchange.new.before).items (after_is g c) (before_is g c) (none g c) c.args.end (is_front g c)
 
 pub returns-clause-value : goal.returns-clause-value
 returns-clause-value g c =
     let s = c.self.inside in
-    M.joined_value s.cap s.members s.after.items s.before.items c.remove.new.self c.self.invariant c.self.view_is
+    M.joined_value s.cap _ s.after.items s.before.items c.remove.new.self c.self.invariant c.self.view_is
     c.args.id c.match-end.front (small g c)
-    (with_items s.after c.exchange.new.after).items (with_items s.before c.exchange.new.before).items (after_is g c) (before_is g c) (none g c) c.args.end (is_front g c)
+    (with_items s.after _).items (with_items s.before c.exchange.new.before).items (after_is g c) (before_is g c) (none g c) c.args.end (is_front g c)
     ∙ M.put_back c.args.self.now c.remove.new.self c.args.id c.args.end c.remove.ensures.value
 
 pub returns-clause-uses : goal.returns-clause-uses

@@ -9,12 +9,12 @@ loop-first-preserved g c =
     let slots = rw c.self.view_is at c.self.inside.descriptors.ok.0 in
     let all : c.len-slots.result ≡ length c.args.self.now = c.len-slots.ensures ∙ slots in
     let next : GoesOn (IsUntaken c.args.self.now) (c.in-Some.taken + 1) (length c.args.self.now) (unwrap_or c.next_free.result (length c.args.self.now)) =
-    goes_on (IsUntaken c.args.self.now) (c.in-Some.taken + 1) (length c.args.self.now) c.next_free.result (omega arith) c.next_free.ensures in
+    goes_on _ _ _ c.next_free.result (omega arith) c.next_free.ensures in
     let on : GoesOn (IsUntaken c.args.self.now) (c.in-Some.taken + 1) (length c.args.self.now) c.unwrap_or-first.result =
-    subst (GoesOn (IsUntaken c.args.self.now) (c.in-Some.taken + 1) (length c.args.self.now)) (ap (unwrap_or c.next_free.result) (sym all) ∙ sym c.unwrap_or-first.ensures) next in record {
+    subst (GoesOn _ _ _) (ap (unwrap_or c.next_free.result) (sym all) ∙ sym c.unwrap_or-first.ensures) next in record {
       above = omega arith;
       inside = on.high;
-      lowest = no_run c.args.self.now c.loop-first.first c.in-Some.taken c.unwrap_or-first.result c.args.count c.loop-first.invariant.lowest taken.low taken.high c.in-Some.ensures.1 on.none;
+      lowest = no_run _ c.loop-first.first _ _ _ c.loop-first.invariant.lowest taken.low taken.high c.in-Some.ensures.1 on.none;
     }
 
 pub returns-clause-none : goal.returns-clause-none

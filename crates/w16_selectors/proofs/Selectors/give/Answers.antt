@@ -6,9 +6,9 @@ use Rattle.w16_selectors.proofs.Selectors.give.Goals as goal
 pub invariant_of-self : goal.invariant_of-self
 invariant_of-self g c =
     let s = c.self.inside in
-    let first : FIRST_SLOT ≤ c.args.slot = taken_above s.descriptors.items s.marks.items c.args.slot c.self.invariant.0 (rw (← c.self.view_is) at c.requires) in
+    let first : FIRST_SLOT ≤ c.args.slot = taken_above s.descriptors.items s.marks.items _ c.self.invariant.0 (rw (← c.self.view_is) at c.requires) in
     let above = c.self.invariant.1.above in
     let least = c.min-self-inside.ensures in (
-      SelectorsInvariant-set s.descriptors.items s.marks.items c.args.slot None c.self.invariant.0 (λ lt. refl) tt,
-      AreTaken-give s.descriptors.items s.free_from c.args.slot c.min-self-inside.result c.self.invariant.1 first (omega (arith, least)) (omega (arith, least)) (omega (arith, least, above, first)),
+      SelectorsInvariant-set _ _ _ None c.self.invariant.0 (λ lt. refl) tt,
+      AreTaken-give _ s.free_from _ _ c.self.invariant.1 first (omega (arith, least)) (omega (arith, least)) (omega (arith, least, above, first)),
     )

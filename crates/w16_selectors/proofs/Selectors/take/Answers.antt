@@ -6,14 +6,14 @@ pub invariant_of-self : goal.invariant_of-self
 invariant_of-self g c =
     let above = c.requires.0 in
     let below = rw (← c.self.view_is) at c.requires.1 in (
-      SelectorsInvariant-set c.self.inside.descriptors.items c.self.inside.marks.items c.args.slot (Some c.unset.result) c.self.invariant.0 (λ lt. absurd (omega arith)) (unset_reaches c.unset.result c.args.kind c.args.number c.unset.ensures),
-      AreTaken-next c.self.inside.descriptors.items c.self.inside.free_from c.args.slot c.unset.result c.self.invariant.1 below c.if-self-slot.true,
+      SelectorsInvariant-set _ _ _ _ c.self.invariant.0 (λ lt. absurd (omega arith)) (unset_reaches c.unset.result c.args.kind c.args.number c.unset.ensures),
+      AreTaken-next _ _ _ _ c.self.invariant.1 below c.if-self-slot.true,
     )
 
 pub invariant_of-self-else-self-slot : goal.invariant_of-self-else-self-slot
 invariant_of-self-else-self-slot g c =
     let above = c.requires.0 in
     let below = rw (← c.self.view_is) at c.requires.1 in (
-      SelectorsInvariant-set c.self.inside.descriptors.items c.self.inside.marks.items c.args.slot (Some c.unset.result) c.self.invariant.0 (λ lt. absurd (omega arith)) (unset_reaches c.unset.result c.args.kind c.args.number c.unset.ensures),
-      AreTaken-set c.self.inside.descriptors.items c.self.inside.free_from c.args.slot c.unset.result c.self.invariant.1 below,
+      SelectorsInvariant-set _ _ _ _ c.self.invariant.0 (λ lt. absurd (omega arith)) (unset_reaches c.unset.result c.args.kind c.args.number c.unset.ensures),
+      AreTaken-set _ _ _ _ c.self.invariant.1 below,
     )

@@ -8,4 +8,4 @@ invariant_of-result g c =
     let few = c.requires in
     let descriptors : c.in_ok-descriptors.descriptors.items ≡ replicate (FIRST_SLOT + c.args.slots) None = search rules in
     let marks = c.in_ok-marks.ensures.items_if_clones_equal (λ y e. e) in
-    rw (descriptors, marks) (SelectorsInvariant-replicate (FIRST_SLOT + c.args.slots) (omega arith) (omega arith), AreTaken-none (FIRST_SLOT + c.args.slots) (omega arith))
+    rw (descriptors, marks) (SelectorsInvariant-replicate _ (omega arith) (omega arith), AreTaken-none _ (omega arith))

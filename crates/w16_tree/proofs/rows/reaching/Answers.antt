@@ -9,4 +9,4 @@ pub returns-clause-small : goal.returns-clause-small
 returns-clause-small c = mask_small c.args.n c.args.at c.args.nodes.now c.requires
 
 pub returns-clause-bits : goal.returns-clause-bits
-returns-clause-bits c = mask_bits c.args.n c.args.at c.args.nodes.now c.requires
+returns-clause-bits c = mask_bits _ _ _ c.requires

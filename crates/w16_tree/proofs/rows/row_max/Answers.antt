@@ -4,5 +4,5 @@ use Rattle.w16_tree.proofs.rows.row_max.Goals as goal
 
 pub loop-k-preserved : goal.loop-k-preserved
 loop-k-preserved c =
-    let more = most_more (number c.args.nodes.now) c.args.at c.loop-k.k c.loop-k.most c.max-most.result c.loop-k-test.true c.max-most.ensures c.loop-k.invariant.bound c.loop-k.invariant.met in
+    let more = most_more _ _ _ c.loop-k.most _ c.loop-k-test.true c.max-most.ensures c.loop-k.invariant.bound c.loop-k.invariant.met in
     record { bound = more.0; met = more.1 }

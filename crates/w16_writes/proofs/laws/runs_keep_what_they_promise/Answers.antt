@@ -2,4 +2,4 @@ use Rattle.w16_writes.proofs.Promises.{run_promises_law}
 use Rattle.w16_writes.proofs.laws.runs_keep_what_they_promise.Goals as goal
 
 pub returns : goal.returns
-returns g c = run_promises_law g.S.Store.is_honest
+returns g c = run_promises_law _
