@@ -8,6 +8,7 @@ use Rattle.w16_machine.specs.Law.{empty_world}
 use Rattle.w16_local.specs.Growth.{InSlot, IsLentOrGrown, WritesFor, WritesOnce, WritesServed, in_slot}
 use Rattle.w16_model.proofs.Maps.{put_same}
 use Rattle.std.specs.FinMap as finmap
+use Rattle.w16_local.specs.declared.growth.Purpose.{Purpose}
 
 -- bytes that are written over themselves
 same_write : (heap : Heap) (slot : ℕ) (bytes : List ℕ) → bytes_at heap slot ≡ Some bytes → after_write heap slot 0 bytes ≡ heap
@@ -84,10 +85,10 @@ module _ {old : Global} {tables : FinMap nat_cmp Table} {ds slot : ℕ} {t : Tab
   written_in : WritesFor is_for flags size (alone old.handles tables ds) old.written new.handles new.written (in_slot t is.bytes slot) → IsLentOrGrown is_for flags size old tables ds new
   written_in so = inr (rw is.is_current so)
 
-  pub served_in : {left : FinMap nat_cmp Table} (kind : Option Kind) (id : ℕ) → is_for (in_slot t is.bytes slot) id → 0 < size
-      → InSlot old.handles tables slot new.handles left (λ before at after. WritesServed (record { id = id; size = C.rounded_up size; kind = kind; options = C.local_options flags }) before at old.written after.loading.handles new.written)
+  pub served_in : {left : FinMap nat_cmp Table} (purpose : Purpose) (id : ℕ) → is_for (in_slot t is.bytes slot) id → 0 < size
+      → InSlot old.handles tables slot new.handles left (λ before at after. WritesServed (record { id = id; size = C.rounded_up size; purpose = purpose; options = C.local_options flags }) before at old.written after.loading.handles new.written)
       → IsLentOrGrown is_for flags size old tables ds new
-  served_in kind id so some s = written_in (elim (held_here is s (empty_world 0 0 [] 0)) [
+  served_in purpose id so some s = written_in (elim (held_here is s (empty_world 0 0 [] 0)) [
     | inl once ↦ inl once
     | inr grown ↦ inr (some, id, so, grown)
   ])

@@ -8,6 +8,7 @@ use proofs.Stepping.{leaves, none_calls, on_named}
 use proofs.{Entries.mapped, Looks.heap_is}
 use Rattle.w16_machine.specs.LocalGrowth.{longer}
 use Rattle.w16_local.specs.{declared.growth.Request.Request, Growth.InSlot, Growth.Served}
+use Rattle.w16_local.specs.declared.growth.Purpose.TheVariants.{New, Resize}
 use Rattle.std.specs.FinMap as finmap
 use Rattle.w16_local.proofs.Acting as acting
 
@@ -25,10 +26,10 @@ acts_as Q a so = record { table = a.table; bytes = a.bytes; is_local = a.is_loca
 
 -- the requests of the calls
 abbrev pub make : ℕ → ℕ → ℕ → Request
-make id size flags = record { id = id; size = rounded_up size; kind = Some (local_kind flags); options = local_options flags }
+make id size flags = record { id = id; size = rounded_up size; purpose = New (local_kind flags); options = local_options flags }
 
 abbrev pub resize : ℕ → ℕ → ℕ → Request
-resize id size flags = record { id = id; size = rounded_up size; kind = None; options = local_options flags }
+resize id size flags = record { id = id; size = rounded_up size; purpose = Resize; options = local_options flags }
 
 -- bytes are given up
 gives_up : {old new : World} {at : LocalHeap} (r : Result Heap Refusal) (taken refused : ℕ) → Acts old at (λ next. r ≡ Ok next) new → GivesUp old at r taken refused taken new

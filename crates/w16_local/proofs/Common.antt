@@ -6,10 +6,10 @@ pub use Rattle.std.proofs.lemmas.List.{get_or_append_left, same_lists}
 pub use Rattle.std.proofs.lemmas.List.Sums.{fails_before_first}
 pub use Rattle.std.specs.Prelude.{option_copied}
 pub use Rattle.w16_arena.proofs.Common.{IsLaid, IsPlaced, IsSameRange, block_table, eligible_count, length-append, set-set, sound_heap, table_block}
-pub use Rattle.w16_arena.proofs.Lookups.{in_list, no_entry}
+pub use Rattle.w16_arena.proofs.Lookups.{no_entry}
 pub use Rattle.w16_arena.proofs.Parts.{AreParts}
 pub use Rattle.w16_arena.specs.declared.new_place.Placed.{Placed}
-pub use Rattle.w16_global.proofs.Common.{ArenaState, Compacts, Global, IfErr, IfNone, KeepsRest, Lends, OnOk, Reallocates, Steps, cases_lt, common_steps, contents, counted, empty_table, entry_is, entry_of, get-by_id}
+pub use Rattle.w16_global.proofs.Common.{ArenaState, Compacts, Global, IfErr, IfNone, KeepsRest, Lends, OnOk, Reallocates, Steps, cases_lt, contents, counted, empty_table, entry_is, entry_of, get-by_id}
 pub use Rattle.w16_global.proofs.Common.{get_or-set_other, get_or-set_same, heap_kept, if◌then◌else◌, is_heap, length-set, locks_at, moved_bytes, no_block, numbered, object_here, place_here, set, size_here, sound, ◌++◌}
 pub use Rattle.w16_holes.proofs.Common.{position, position-Some}
 pub use Rattle.w16_loading.proofs.Common.{position_or_len}
@@ -27,13 +27,13 @@ pub use Rattle.w16_machine.proofs.Common.{Heap, IfOk, IfSome, IsBlockOf, IsHeap,
 pub use Rattle.w16_machine.proofs.Common.{LocalLock, LocalObject, LocalReAlloc, LocalUnlock, MakesObject, MakesRoom, MatchBool, MatchOption, MayBegin, Member, ModifiesObject, Object, OnNamed, ResizesObject, SizesObject, Stays, Table, World, []}
 pub use Rattle.w16_machine.proofs.Common.{absent, after_discard, after_free, after_lock, after_modify, after_unlock, after_write, ap, arith, asked, beginning, beginning_in, block_end, block_with, blocks, bytes_at, cases_Bool, cases_eq}
 pub use Rattle.w16_machine.proofs.Common.{compaction_prefix, cond, current_heap, discards_needed, eligible, entry_at, eq-eqb, false, false≢true, get-empty, get-retain_keys, get_or, has_flag, has_range, heap_in, heap_of, id_at, id_named, inl, inr}
-pub use Rattle.w16_machine.proofs.Common.{inserted_here, inserted_other, is_code, is_discardable, is_fixed, is_member, is_some, laid_each, left_in, length, length-replicate, local_flags_of, local_in, local_kind, local_of, local_options, lock_refused}
+pub use Rattle.w16_machine.proofs.Common.{inserted_here, inserted_other, is_code, is_discardable, is_fixed, is_member, is_some, laid_each, left_in, length, length-replicate, local_flags_of, local_kind, local_options, lock_refused}
 pub use Rattle.w16_machine.proofs.Common.{locks_left, member_with, min, most_room, moveable_or_discardable, name_at, name_of, nat_cmp, nat_cmp-IsAntisymmetric, nat_cmp_total, nat_le, nat_lt, ne_eqb, near_pointer, new_table, none_about, not}
 pub use Rattle.w16_machine.proofs.Common.{object_at, object_in, object_is, object_named, option_map, others_law, put_part, range_in, refl, removed, replicate, rest_law, rounded_down, rounded_up, same_map, same_updated, slice_range, slot_of_selector}
 pub use Rattle.w16_machine.proofs.Common.{subst, suc, sym, take, taken_here, taken_other, touched, true, unwrap_or, with_newest, with_object, with_ordered, with_table, zero, ℕ, ◌&&◌, ◌*◌, ◌+◌, ◌-◌, ◌/◌, ◌<◌, ◌==◌, ◌||◌, ◌∙◌, ◌∷◌, ◌≡◌, ◌≢◌, ◌≤◌}
 pub use Rattle.w16_machine.proofs.Common.{◌⊎◌}
 pub use Rattle.w16_machine.proofs.LocalBegins.{begin_law}
-pub use Rattle.w16_machine.proofs.LocalFacts.{object_of, put_all, there_local}
+pub use Rattle.w16_machine.proofs.LocalFacts.{object_of, put_all}
 pub use Rattle.w16_machine.proofs.LocalFewest.{local_alloc_law, local_compact_law, local_realloc_law}
 pub use Rattle.w16_machine.proofs.LocalNames.{names_law}
 pub use Rattle.w16_machine.specs.LocalCalls.{asked_of, local_handle, name_from}

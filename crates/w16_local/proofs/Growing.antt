@@ -14,7 +14,7 @@ use Rattle.w16_machine.specs.LocalGrowth.{IsLongerSize, Lengthens, growth_flags}
 use Rattle.w16_machine.proofs.LocalGrown.{IsGrownObject, bytes_of, grown_object, same_later}
 use Rattle.w16_machine.proofs.{LocalFacts.IsThere, LocalLeft.left_is, LocalLeft.left_over}
 use Rattle.w16_local.specs.declared.growth.Request.{Request}
-use Rattle.w16_local.specs.Growth.{Grown, InSlot, Later, MayEndLater, MayGrowIn, WritesGrown, act_of, in_slot}
+use Rattle.w16_local.specs.Growth.{Grown, InSlot, Later, MayEndLater, MayGrowIn, WritesGrown, operation_of, in_slot}
 use Rattle.std.specs.FinMap as finmap
 use Rattle.w16_global.specs.Lengthened as global
 
@@ -115,7 +115,7 @@ module _ {old : C.Global} {tables : FinMap nat_cmp Table} {slot size : ℕ} {r :
       high = let w = is_size.whole in (8 * w.0, omega (arith, w.1));
       last = is_size.most;
       ends = sym grown.long;
-      may = subst (C.MayAct (act_of r)) (sym later_heap) (may_later r (heap_in m.table m.bytes) size m.may);
+      may = subst (C.MayAct (operation_of r)) (sym later_heap) (may_later r (heap_in m.table m.bytes) size m.may);
       answered = subst (λ h. is_answered h r.id r.size r.options ≡ true) (sym later_heap) m.growth.served.answered;
     }
 
@@ -135,7 +135,7 @@ module _ {old : C.Global} {tables : FinMap nat_cmp Table} {slot size : ℕ} {r :
 
       module _ (result : ℕ) (next : Handles) (final : FinMap nat_cmp Table)
           (a : C.ActedIn new.handles left slot (λ table bytes after_table after. (count : ℕ) ×
-          (Later r size table bytes result after_table after × C.Writes (act_of r)
+          (Later r size table bytes result after_table after × C.Writes (operation_of r)
           (heap_in (record table { hi = size }) bytes) (heap_in after_table after) 0 count)) next final) where
         same_table : a.before ≡ m.table
         same_table = let both : ◌≡◌ {A = Option Table} (Some a.before) (Some m.table) = sym a.was ∙ was_now in cc

@@ -6,20 +6,22 @@ use proofs.Common.{◌≡◌, ℕ, ◌⊎◌, inl, inr, List, Option, Some, None
 use proofs.Acting.{acted_same, once_in}
 use Rattle.w16_machine.specs.LocalGrowth.{IsGrowth, IsKeptShort}
 use specs.declared.growth.Met.TheVariants.{Answered, Lacks}
-use specs.Growth.{Grown, InSlot, MayGrowIn, Served, ServedOver, SizeTold, WritesGrown, WritesOnce, WritesServed, act_of, in_slot}
+use specs.Growth.{Grown, InSlot, MayGrowIn, Served, ServedOver, SizeTold, WritesGrown, WritesOnce, WritesServed, operation_of, in_slot}
 use specs.{declared.growth.Met.Met, declared.growth.Request.Request}
+use Rattle.w16_local.specs.declared.growth.Purpose.{Purpose}
+use Rattle.w16_local.specs.declared.growth.Purpose.TheVariants.{New, Resize}
 
 -- a refusal answers 0
-idle_none : (r : Request) (heap : Heap) (answer : ℕ) → Idle (act_of r) heap answer → answer ≡ 0
-idle_none r heap answer = turn r.kind
+idle_none : (r : Request) (heap : Heap) (answer : ℕ) → Idle (operation_of r) heap answer → answer ≡ 0
+idle_none r heap answer = turn r.purpose
   where
-    turn : (k : Option Kind) → Idle (act_of (record r { kind = k })) heap answer → answer ≡ 0
-    turn (Some kind) i = i.1
-    turn None i = i.1
+    turn : (p : Purpose) → Idle (operation_of (record r { purpose = p })) heap answer → answer ≡ 0
+    turn (New kind) i = i.1
+    turn Resize i = i.1
 
 -- what is known once the request has been tried
 abbrev pub Tried : Handles → FinMap nat_cmp Table → ℕ → Request → Met → Handles → FinMap nat_cmp Table → Type 0
-Tried handles tables slot r met next new = C.ActedIn handles tables slot (λ table bytes left after. (count : ℕ) × (ServedOver r table bytes met left after × C.Writes (act_of r) (heap_in table bytes) (heap_in left after) 0 count)) next new
+Tried handles tables slot r met next new = C.ActedIn handles tables slot (λ table bytes left after. (count : ℕ) × (ServedOver r table bytes met left after × C.Writes (operation_of r) (heap_in table bytes) (heap_in left after) 0 count)) next new
 
 module _ {handles : Handles} {tables : FinMap nat_cmp Table} {slot : ℕ} (r : Request) where
   -- It is answered.
@@ -42,10 +44,10 @@ module _ {handles : Handles} {tables : FinMap nat_cmp Table} {slot : ℕ} (r : R
     });
   }
     where
-      acted : Acted (act_of r) a.before a.bytes answer a.table a.after
+      acted : Acted (operation_of r) a.before a.bytes answer a.table a.after
       acted = a.does.1.0.1
 
-      done : Done (act_of r) (heap_in a.before a.bytes) answer (heap_in a.table a.after)
+      done : Done (operation_of r) (heap_in a.before a.bytes) answer (heap_in a.table a.after)
       done = elim acted.act_is [
         | inl idle ↦ absurd (a.does.1.0.0 (idle_none r (heap_in a.before a.bytes) answer idle.0))
         | inr d ↦ d
@@ -53,7 +55,7 @@ module _ {handles : Handles} {tables : FinMap nat_cmp Table} {slot : ℕ} (r : R
 
   -- It is refused, and nothing has changed.
   module _ {next : Handles} {new : FinMap nat_cmp Table} (size : Option ℕ) (a : Tried handles tables slot r (Lacks size) next new) where
-    idle : Idle (act_of r) (heap_in a.before a.bytes) 0
+    idle : Idle (operation_of r) (heap_in a.before a.bytes) 0
     idle = a.does.1.0.0
 
     told : SizeTold r a.before a.bytes size
@@ -80,14 +82,14 @@ module _ {handles : Handles} {tables : FinMap nat_cmp Table} {slot : ℕ} (r : R
       growth : IsGrowth (in_slot a.before a.bytes slot) r.id r.size r.options some
       growth = subst (SizeTold r a.before a.bytes) some_is told slot
 
-      pub may_grow : C.MayActIn handles tables slot (C.MayActOver (act_of r)) → MayGrowIn next new slot some r
+      pub may_grow : C.MayActIn handles tables slot (C.MayActOver (operation_of r)) → MayGrowIn next new slot some r
       may_grow may = subst (λ (p : Handles × FinMap nat_cmp Table). MayGrowIn p.0 p.1 slot some r) (λ i. (sym same.1 i, sym same.0 i)) (record {
         table = a.before;
         bytes = a.bytes;
         was = a.was;
         had = a.had;
         is_local = subst C.IsLocalTable a.does.1.0.1 a.is_local;
-        may = subst (λ (p : Table × List ℕ). C.MayAct (act_of r) (heap_in p.0 p.1)) (λ i. (table_is i, bytes_are i)) may.may.1;
+        may = subst (λ (p : Table × List ℕ). C.MayAct (operation_of r) (heap_in p.0 p.1)) (λ i. (table_is i, bytes_are i)) may.may.1;
         growth = growth;
       })
         where

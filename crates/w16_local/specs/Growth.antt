@@ -1,6 +1,6 @@
 -- Requests for room, in heaps that grow with their segments where they have none.
 use Rattle.w16_local.specs
-use Rattle.std.specs.Prelude.{◌≡◌, ◌≢◌, ◌<◌, ◌≤◌, ◌⊎◌, ℕ, List, length, true, Option, Some, None, IsSomeAnd, MatchOption}
+use Rattle.std.specs.Prelude.{◌≡◌, ◌≢◌, ◌<◌, ◌≤◌, ◌⊎◌, ℕ, List, length, true, Option, Some, IsSomeAnd, MatchOption}
 use Rattle.std.specs.{Ordering.nat_cmp, FinMap.FinMap}
 use Rattle.w16_model.specs.{Ends.is_answered, Far.after_write, Handles.Handles, Heap.IsMultiple, Heap.bytes_at, declared.RoomOptions.RoomOptions, Table.Table, Table.IsSameOutside, Table.heap_in}
 use Rattle.w16_region.specs.Bytes.{counted}
@@ -12,12 +12,13 @@ use Rattle.w16_machine.specs.LocalGrowth.{IsGrowth, IsKeptShort, Lengthens, Once
 use Rattle.w16_machine.specs.{World.World, LocalCalls.local_options}
 use specs.declared.acts.ByteOp.TheVariants.{Alloc, Realloc}
 use specs.declared.growth.Met.TheVariants.{Answered, Lacks}
+use specs.declared.growth.Purpose.TheVariants.{New, Resize}
 use specs.{declared.acts.ByteOp.ByteOp, declared.growth.Met.Met, declared.growth.Request.Request, Acts.Acted, Acts.Done, Acts.Idle, Acts.MayAct, Parts.alone, Parts.with_parts}
 use Rattle.std.specs.FinMap as finmap
 
--- what a request does to a heap
-abbrev pub act_of : Request → ByteOp
-act_of r = elim r.kind [ Some kind ↦ Alloc r.id r.size kind r.options | None ↦ Realloc r.id r.size r.options ]
+-- the operation by which a heap answers a request
+abbrev pub operation_of : Request → ByteOp
+operation_of r = elim r.purpose [ New kind ↦ Alloc r.id r.size kind r.options | Resize ↦ Realloc r.id r.size r.options ]
 
 -- a heap in a segment of whatever slot
 abbrev pub in_slot : Table → List ℕ → ℕ → LocalHeap
@@ -31,8 +32,8 @@ SizeTold r table bytes size = (slot : ℕ) → MatchOption size
 
 -- what becomes of a request in a heap as it is
 abbrev pub ServedOver : Request → Table → List ℕ → Met → Table → List ℕ → Type 0
-ServedOver r table bytes (Answered answer) left after = (answer ≢ 0) × Acted (act_of r) table bytes answer left after
-ServedOver r table bytes (Lacks size) left after = Idle (act_of r) (heap_in table bytes) 0 × (left ≡ table) × (after ≡ bytes) × SizeTold r table bytes size
+ServedOver r table bytes (Answered answer) left after = (answer ≢ 0) × Acted (operation_of r) table bytes answer left after
+ServedOver r table bytes (Lacks size) left after = Idle (operation_of r) (heap_in table bytes) 0 × (left ≡ table) × (after ≡ bytes) × SizeTold r table bytes size
 
 -- A heap may end later, at its segment's end, and the request is answered there.
 pub record MayEndLater (r : Request) (end : ℕ) (table : Table) (bytes : List ℕ) : Type 0 where
@@ -41,14 +42,14 @@ pub record MayEndLater (r : Request) (end : ℕ) (table : Table) (bytes : List �
   pub high : IsMultiple LOCAL_GRAIN end
   pub last : end ≤ LAST_LOCAL_END
   pub ends : end ≡ length bytes
-  pub may : MayAct (act_of r) (heap_in (record table { hi = end }) bytes)
+  pub may : MayAct (operation_of r) (heap_in (record table { hi = end }) bytes)
   pub answered : is_answered (heap_in (record table { hi = end }) bytes) r.id r.size r.options ≡ true
 
 -- and what becomes of it in the heap that ends there
 pub record Later (r : Request) (end : ℕ) (table : Table) (bytes : List ℕ) (answer : ℕ) (left : Table) (after : List ℕ) : Type 0 where
   pub range : IsSameRange (record table { hi = end }) left
   pub outside : IsSameOutside table.lo end bytes after
-  pub done : Done (act_of r) (heap_in (record table { hi = end }) bytes) answer (heap_in left after)
+  pub done : Done (operation_of r) (heap_in (record table { hi = end }) bytes) answer (heap_in left after)
 
 -- A slot's heap has no room for a request, and is to grow for it to a size.
 pub record MayGrowIn (handles : Handles) (tables : FinMap nat_cmp Table) (slot size : ℕ) (r : Request) : Type 0 where
@@ -57,19 +58,19 @@ pub record MayGrowIn (handles : Handles) (tables : FinMap nat_cmp Table) (slot s
   pub was : finmap.get tables slot ≡ Some table
   pub had : bytes_at handles.heap slot ≡ Some bytes
   pub is_local : IsLocalTable table
-  pub may : MayAct (act_of r) (heap_in table bytes)
+  pub may : MayAct (operation_of r) (heap_in table bytes)
   pub growth : IsGrowth (in_slot table bytes slot) r.id r.size r.options size
 
 -- What becomes of a request in the heap of a slot, in whatever world has these parts: it is answered there, or in the heap as it has grown for it,
 -- or neither.
 abbrev pub Served : Request → World → LocalHeap → ℕ → World → Type 0
-Served r old at answer new = Acts old at (Done (act_of r) (heap_of at) answer) new
-    ⊎ (Idle (act_of r) (heap_of at) 0 × OnceLonger old at r.id r.size r.options (λ next longer. Acts next longer (Done (act_of r) (heap_of longer) answer) new) (Stays old 0 answer new))
+Served r old at answer new = Acts old at (Done (operation_of r) (heap_of at) answer) new
+    ⊎ (Idle (operation_of r) (heap_of at) 0 × OnceLonger old at r.id r.size r.options (λ next longer. Acts next longer (Done (operation_of r) (heap_of longer) answer) new) (Stays old 0 answer new))
 
 -- the same of a heap that grows to a size, if its segment gets it
 abbrev pub Grown : Request → ℕ → World → LocalHeap → ℕ → World → Type 0
 Grown r size old at answer new = (IsKeptShort old at r.options size × Stays old 0 answer new)
-    ⊎ ((l : Lengthens old at r.options size) × Acts (with_longer old l.handles (longer at size l.bytes)) (longer at size l.bytes) (Done (act_of r) (heap_of (longer at size l.bytes)) answer) new)
+    ⊎ ((l : Lengthens old at r.options size) × Acts (with_longer old l.handles (longer at size l.bytes)) (longer at size l.bytes) (Done (operation_of r) (heap_of (longer at size l.bytes)) answer) new)
 
 -- what is so of a slot's heap before a call and of the worlds before and after it
 pub record InSlot (handles : Handles) (tables : FinMap nat_cmp Table) (slot : ℕ) (next : Handles) (new : FinMap nat_cmp Table) (so : World → LocalHeap → World → Type 0) : Type 0 where

@@ -23,7 +23,7 @@ impl<A: Allocator + Copy> LocalHeaps<A> {
     }
 
     /// Does a work on a slot's heap, over the bytes of its segment. Only a pointer to the heap is moved for it.
-    pub(crate) fn act<W: Work<LocalHeap<A>>>(
+    pub(crate) fn work_on<W: Work<LocalHeap<A>>>(
         &mut self,
         global: &mut Global16<A>,
         slot: u16,

@@ -47,25 +47,25 @@ impl<A: Allocator + Copy> Work<LocalHeap<A>> for ByteOp {
     ghost use Rattle.w16_model.specs.Table.{heap_in};
     ghost use Rattle.w16_local.specs.Acts.{Acted, MayActOver, Writes};
 
-    ghost may = { λ act table bytes. MayActOver act table bytes };
+    ghost may = { λ operation table bytes. MayActOver operation table bytes };
 
-    ghost does = { λ act table bytes answer left after count written. Acted act table bytes answer left after × Writes act (heap_in table bytes) (heap_in left after) count written };
+    ghost does = { λ operation table bytes answer left after count written. Acted operation table bytes answer left after × Writes operation (heap_in table bytes) (heap_in left after) count written };
 
     fn work<S: Space>(&self, heap: &mut LocalHeap<A>, space: &mut S) -> u16 {
-        heap.act(space, *self)
+        heap.operate(space, *self)
     }
 }
 
 impl<A: Allocator + Copy> LocalHeap<A> {
-    /// Does an act.
-    pub(crate) fn act<S: Space>(&mut self, space: &mut S, act: ByteOp) -> u16
-        requires { MayActOver act self.old (S.bytes space.old) }
-        ensures acted { Acted act self.old (S.bytes space.old) result self.new (S.bytes space.new) }
-        ensures written { Writes act (heap_in self.old (S.bytes space.old)) (heap_in self.new (S.bytes space.new)) (S.written space.old) (S.written space.new) }
+    /// Does an operation on the heap, and gives its answer.
+    pub(crate) fn operate<S: Space>(&mut self, space: &mut S, operation: ByteOp) -> u16
+        requires { MayActOver operation self.old (S.bytes space.old) }
+        ensures acted { Acted operation self.old (S.bytes space.old) result self.new (S.bytes space.new) }
+        ensures written { Writes operation (heap_in self.old (S.bytes space.old)) (heap_in self.new (S.bytes space.new)) (S.written space.old) (S.written space.new) }
         ensures long { length (S.bytes space.new) ≡ length (S.bytes space.old) }
         ensures loans { S.lenders space.new ≡ S.lenders space.old }
     {
-        match act {
+        match operation {
             ByteOp::Alloc {
                 id,
                 size,

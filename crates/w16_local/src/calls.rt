@@ -14,7 +14,7 @@ use crate::flags::{
     LocalAllocFlags, LocalReAllocFlags, local_kind, local_options, moveable_or_discardable,
     rounded_up,
 };
-use crate::growth::Request;
+use crate::growth::{Purpose, Request};
 use crate::look::{may_discard, may_free};
 use crate::steps::TableOp;
 use bitflags::Flags;
@@ -53,7 +53,7 @@ impl<A: Allocator + Copy> LocalHeaps<A> {
         let request = Request {
             id,
             size: rounded_up(size),
-            kind: Some(local_kind(flags)),
+            purpose: Purpose::New(local_kind(flags)),
             options: local_options(flags),
         };
         self.serve(global, slot, request)
@@ -87,7 +87,7 @@ impl<A: Allocator + Copy> LocalHeaps<A> {
             let request = Request {
                 id,
                 size: rounded_up(size),
-                kind: None,
+                purpose: Purpose::Resize,
                 options: local_options(asked),
             };
             return self.serve(global, slot, request);
@@ -98,7 +98,7 @@ impl<A: Allocator + Copy> LocalHeaps<A> {
         if !may_discard(heap, id) {
             return 0;
         }
-        self.act(global, slot, &ByteOp::Discard { id });
+        self.work_on(global, slot, &ByteOp::Discard { id });
         name
     }
 
@@ -121,7 +121,7 @@ impl<A: Allocator + Copy> LocalHeaps<A> {
         if !may_free(heap, id) {
             return name;
         }
-        self.act(global, slot, &ByteOp::Free { id });
+        self.work_on(global, slot, &ByteOp::Free { id });
         0
     }
 
@@ -136,6 +136,6 @@ impl<A: Allocator + Copy> LocalHeaps<A> {
             return 0;
         };
         let compact = ByteOp::Compact { size: size as u32 };
-        self.act(global, slot, &compact)
+        self.work_on(global, slot, &compact)
     }
 }

@@ -6,7 +6,7 @@ ghost use Rattle.w16_model.specs.Table.{IsSameOutside, heap_in};
 ghost use Rattle.w16_machine.specs.LocalGrowth as growth;
 ghost use Rattle.w16_machine.specs.declared.local.TheConstants.{LAST_LOCAL_END, LOCAL_GRAIN};
 ghost use Rattle.w16_local.specs.Acts.{MayActIn, MayActOver};
-ghost use Rattle.w16_local.specs.Growth.{Grown, InSlot, MayGrowIn, Served, SizeTold, WritesGrown, WritesServed, act_of};
+ghost use Rattle.w16_local.specs.Growth.{Grown, InSlot, MayGrowIn, Served, SizeTold, WritesGrown, WritesServed, operation_of};
 
 use crate::LocalHeaps;
 use crate::acts::ByteOp;
@@ -17,12 +17,21 @@ use w16_global::{Global16, GlobalReAllocFlags, Work};
 use w16_model::{GRAIN, Kind, RoomOptions};
 use w16_region::{Space, reveal_bytes};
 
-/// A request for so many bytes, above 0 and a multiple of 4, for an entry: for a new object of a kind, or for the one that it has.
+/// What a request asks bytes for.
+#[derive(Clone, Copy, Debug)]
+pub(crate) enum Purpose {
+    /// A new object of a kind.
+    New(Kind),
+    /// The object that the entry has.
+    Resize,
+}
+
+/// A request for that many bytes, above 0 and a multiple of 4, for an entry.
 #[derive(Clone, Copy, Debug)]
 pub(crate) struct Request {
     pub id: u32,
     pub size: u32,
-    pub kind: Option<Kind>,
+    pub purpose: Purpose,
     pub options: RoomOptions,
 }
 
@@ -36,9 +45,9 @@ pub(crate) enum Met {
 }
 
 impl Request {
-    /// What it does to a heap.
-    fn act(self) -> ByteOp
-        ensures { result ≡ act_of self }
+    /// The operation by which a heap answers it.
+    fn operation(self) -> ByteOp
+        ensures { result ≡ operation_of self }
     {
         let Request {
             id,
@@ -46,14 +55,14 @@ impl Request {
             options,
             ..
         } = self;
-        match self.kind {
-            Some(kind) => ByteOp::Alloc {
+        match self.purpose {
+            Purpose::New(kind) => ByteOp::Alloc {
                 id,
                 size,
                 kind,
                 options,
             },
-            None => ByteOp::Realloc { id, size, options },
+            Purpose::Resize => ByteOp::Realloc { id, size, options },
         }
     }
 }
@@ -63,14 +72,14 @@ impl<A: Allocator + Copy> Work<LocalHeap<A>> for Request {
 
     ghost use Rattle.w16_model.specs.Table.{heap_in};
     ghost use Rattle.w16_local.specs.Acts.{MayActOver, Writes};
-    ghost use Rattle.w16_local.specs.Growth.{ServedOver, act_of};
+    ghost use Rattle.w16_local.specs.Growth.{ServedOver, operation_of};
 
-    ghost may = { λ request table bytes. MayActOver (act_of request) table bytes };
+    ghost may = { λ request table bytes. MayActOver (operation_of request) table bytes };
 
-    ghost does = { λ request table bytes met left after count written. ServedOver request table bytes met left after × Writes (act_of request) (heap_in table bytes) (heap_in left after) count written };
+    ghost does = { λ request table bytes met left after count written. ServedOver request table bytes met left after × Writes (operation_of request) (heap_in table bytes) (heap_in left after) count written };
 
     fn work<S: Space>(&self, heap: &mut LocalHeap<A>, space: &mut S) -> Met {
-        let answer = heap.act(space, self.act());
+        let answer = heap.operate(space, self.operation());
         if answer != 0 {
             return Met::Answered(answer);
         }
@@ -92,16 +101,16 @@ impl<A: Allocator + Copy> Work<LocalHeap<A>> for LaterRequest {
 
     ghost use Rattle.w16_model.specs.Table.{heap_in};
     ghost use Rattle.w16_local.specs.Acts.{Writes};
-    ghost use Rattle.w16_local.specs.Growth.{Later, MayEndLater, act_of};
+    ghost use Rattle.w16_local.specs.Growth.{Later, MayEndLater, operation_of};
 
     ghost may = { λ later table bytes. MayEndLater later.request later.end table bytes };
 
-    ghost does = { λ later table bytes answer left after count written. Later later.request later.end table bytes answer left after × Writes (act_of later.request) (heap_in (record table { hi = later.end }) bytes) (heap_in left after) count written };
+    ghost does = { λ later table bytes answer left after count written. Later later.request later.end table bytes answer left after × Writes (operation_of later.request) (heap_in (record table { hi = later.end }) bytes) (heap_in left after) count written };
 
     fn work<S: Space>(&self, heap: &mut LocalHeap<A>, space: &mut S) -> u16 {
         heap.set_end(space, self.end);
-        let asked = self.request.act();
-        heap.act(space, asked)
+        let operation = self.request.operation();
+        heap.operate(space, operation)
     }
 }
 
@@ -146,11 +155,11 @@ impl<A: Allocator + Copy> LocalHeaps<A> {
     /// Serves a request for room in a slot's heap: in the heap as it is; or, where it has no room, in the heap as it has grown for it, by the least
     /// that serves. It answers the object's name; 0, and nothing has changed, where the heap may not grow, or its segment doesn't get the bytes.
     pub(crate) fn serve(&mut self, global: &mut Global16<A>, slot: u16, request: Request) -> u16
-        requires { MayActIn global.old.handles self.old slot (MayActOver (act_of request)) }
+        requires { MayActIn global.old.handles self.old slot (MayActOver (operation_of request)) }
         ensures served { InSlot global.old.handles self.old slot global.new.handles self.new (λ old at new. Served request old at result new) }
         ensures written { InSlot global.old.handles self.old slot global.new.handles self.new (λ old at new. WritesServed request old at global.old.written new.loading.handles global.new.written) }
     {
-        match self.act(global, slot, &request) {
+        match self.work_on(global, slot, &request) {
             Met::Answered(answer) => answer,
             Met::Lacks(None) => 0,
             Met::Lacks(Some(size)) => self.grow(global, slot, size, request),
@@ -172,7 +181,7 @@ impl<A: Allocator + Copy> LocalHeaps<A> {
         }
         self.sweep(global);
         let later = LaterRequest { request, end: size };
-        self.act(global, slot, &later)
+        self.work_on(global, slot, &later)
     }
 }
 

@@ -1,4 +1,4 @@
-use Rattle.w16_local.proofs.Common.{IfNone, IfSome, IsSomeAnd, Option, ap, is_some, subst, sym, ◌∙◌, false≢true, Table, IsFull, IsLowest}
+use Rattle.w16_local.proofs.Common.{IfNone, IfSome, IsSomeAnd, ap, is_some, subst, sym, ◌∙◌, false≢true, IsFull, IsLowest}
 use Rattle.w16_local.proofs.LocalHeaps.free_entry.Goals as goal
 
 pub unreachable-requires : goal.unreachable-requires

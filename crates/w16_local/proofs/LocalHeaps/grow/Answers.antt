@@ -5,8 +5,8 @@ use Rattle.w16_local.proofs.LocalHeaps.grow.Goals as goal
 pub lengthen-answer-requires : goal.lengthen-answer-requires
 lengthen-answer-requires g c = segment_there c.args.global.now.handles.heap c.args.slot c.requires.bytes c.requires.had
 
-pub act-requires : goal.act-requires
-act-requires g c = may_act c.requires c.reveal_handles.ensures c.growth_flags-flags.result.0 c.growth_flags-flags.ensures
+pub work_on-requires : goal.work_on-requires
+work_on-requires g c = may_act c.requires c.reveal_handles.ensures c.growth_flags-flags.result.0 c.growth_flags-flags.ensures
     c.lengthen-answer.result c.lengthen-answer.new.self c.lengthen-answer.ensures.step
     (λ e. let some = c.if-answer-eq0.false in omega (arith, some, e)) c.sweep.new.self c.sweep.ensures
 
@@ -21,11 +21,11 @@ returns-then-answer-eq0-clause-written g c = inl (c.lengthen-answer.ensures.refu
 pub returns-clause-grown : goal.returns-clause-grown
 returns-clause-grown g c = has_grown c.requires c.reveal_handles.ensures c.growth_flags-flags.result.0
     c.growth_flags-flags.ensures c.lengthen-answer.result c.lengthen-answer.new.self c.lengthen-answer.ensures.step
-    (λ e. let some = c.if-answer-eq0.false in omega (arith, some, e)) c.sweep.new.self c.sweep.ensures c.act.result
-    c.act.new.global.handles c.act.new.self c.act.ensures.acted
+    (λ e. let some = c.if-answer-eq0.false in omega (arith, some, e)) c.sweep.new.self c.sweep.ensures c.work_on.result
+    c.work_on.new.global.handles c.work_on.new.self c.work_on.ensures.acted
 
 pub returns-clause-written : goal.returns-clause-written
 returns-clause-written g c = inr (grown_written c.requires c.reveal_handles.ensures c.growth_flags-flags.result.0
     c.growth_flags-flags.ensures c.lengthen-answer.result c.lengthen-answer.new.self c.lengthen-answer.ensures.step
-    (λ e. let some = c.if-answer-eq0.false in omega (arith, some, e)) c.sweep.new.self c.sweep.ensures c.act.result
-    c.act.new.global.handles c.act.new.self c.act.ensures.acted _ c.act.ensures.lent)
+    (λ e. let some = c.if-answer-eq0.false in omega (arith, some, e)) c.sweep.new.self c.sweep.ensures c.work_on.result
+    c.work_on.new.global.handles c.work_on.new.self c.work_on.ensures.acted _ c.work_on.ensures.lent)

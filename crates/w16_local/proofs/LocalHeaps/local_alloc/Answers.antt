@@ -3,7 +3,8 @@ use proofs.Common as C
 use proofs.Calling as M
 use proofs.Common.{Ok, Some, arith, subst, sym, ◌≡◌, ◌∙◌, None, Kind, Heap, Table, IsLowest, Alloc, Enter, local_alloc_law}
 use proofs.{Acting.may_in, Acting.served_in, Stepping.holds_in}
-use Rattle.w16_local.specs.{declared.growth.Request.Request, Growth.InSlot, Growth.Served, Growth.WritesServed}
+use Rattle.w16_local.specs.{Growth.InSlot, Growth.Served, Growth.WritesServed}
+use Rattle.w16_local.specs.declared.growth.Purpose.TheVariants.{New}
 use Rattle.w16_local.proofs.LocalHeaps.local_alloc.Goals as goal
 
 pub returns-in_default-clause-step : goal.returns-in_default-clause-step
@@ -49,7 +50,7 @@ returns-clause-step g c =
     (let some = c.if-size-eq0.false in omega (arith, some))
     (subst (λ r. InSlot c.args.global.now.handles c.args.self.now c.in-Some.field-0.slot
     c.serve.new.global.handles c.serve.new.self (λ old at left. Served r old at c.serve.result left))
-    (λ i. record { id = c.in-Some-free_entry.id; size = c.rounded_up.ensures i; kind = Some (c.local_kind.ensures i); options = c.local_options.ensures i }) c.serve.ensures.served)
+    (λ i. record { id = c.in-Some-free_entry.id; size = c.rounded_up.ensures i; purpose = New (c.local_kind.ensures i); options = c.local_options.ensures i }) c.serve.ensures.served)
 
 pub returns-in_default-clause-fewest : goal.returns-in_default-clause-fewest
 returns-in_default-clause-fewest g c = λ rest is at current. local_alloc_law _ _ c.args.flags.0 c.args.size _ at is (returns-in_default-clause-step g c rest) current
@@ -71,7 +72,7 @@ returns-clause-written g c =
     let is = c.in-Some.ensures.some in
     let lowest = holds_in (λ t. IsLowest t c.in-Some-free_entry.id) is.kept c.in-Some-free_entry.ensures.found in
     let some = c.if-size-eq0.false in
-    served_in is c.serve.new.global c.args.flags.0 c.args.size (λ at id. C.IsLowestFree (C.heap_of at) id) (Some (C.local_kind c.args.flags.0)) c.in-Some-free_entry.id (M.is_lowest is c.args.flags.0 c.args.size c.in-Some-free_entry.id lowest) (omega (arith, some))
+    served_in is c.serve.new.global c.args.flags.0 c.args.size (λ at id. C.IsLowestFree (C.heap_of at) id) (New (C.local_kind c.args.flags.0)) c.in-Some-free_entry.id (M.is_lowest is c.args.flags.0 c.args.size c.in-Some-free_entry.id lowest) (omega (arith, some))
     (subst (λ r. InSlot c.args.global.now.handles c.args.self.now c.in-Some.field-0.slot
     c.serve.new.global.handles c.serve.new.self (λ old at left. WritesServed r old at c.args.global.now.written left.loading.handles c.serve.new.global.written))
-    (λ i. record { id = c.in-Some-free_entry.id; size = c.rounded_up.ensures i; kind = Some (c.local_kind.ensures i); options = c.local_options.ensures i }) c.serve.ensures.written)
+    (λ i. record { id = c.in-Some-free_entry.id; size = c.rounded_up.ensures i; purpose = New (c.local_kind.ensures i); options = c.local_options.ensures i }) c.serve.ensures.written)

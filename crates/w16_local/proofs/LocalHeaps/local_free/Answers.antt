@@ -7,11 +7,11 @@ returns-in_default-clause-step g c = free_none c.args.global.now.handles c.args.
 pub returns-then-not-may_free-clause-step : goal.returns-then-not-may_free-clause-step
 returns-then-not-may_free-clause-step g c = let n = c.in-Some.ensures.some in free_refused n (c.may_free.ensures n.heap.bytes n.heap.over ∙ c.if-not-may_free.true)
 
-pub act-requires : goal.act-requires
-act-requires g c = let n = c.in-Some.ensures.some in may_in n.heap (Free c.in-Some.field-0.id) (named_there n, c.may_free.ensures n.heap.bytes n.heap.over ∙ c.if-not-may_free.false)
+pub work_on-requires : goal.work_on-requires
+work_on-requires g c = let n = c.in-Some.ensures.some in may_in n.heap (Free c.in-Some.field-0.id) (named_there n, c.may_free.ensures n.heap.bytes n.heap.over ∙ c.if-not-may_free.false)
 
 pub returns-clause-step : goal.returns-clause-step
-returns-clause-step g c = let n = c.in-Some.ensures.some in free_calls n c.act.ensures.acted
+returns-clause-step g c = let n = c.in-Some.ensures.some in free_calls n c.work_on.ensures.acted
 
 pub returns-clause-written : goal.returns-clause-written
-returns-clause-written g c = let n = c.in-Some.ensures.some in lent_in n.heap c.act.new.global c.act.ensures.lent
+returns-clause-written g c = let n = c.in-Some.ensures.some in lent_in n.heap c.work_on.new.global c.work_on.ensures.lent

@@ -1,4 +1,4 @@
-use Rattle.w16_local.proofs.Common.{IsSomeAnd, Option, subst, sym, Table, MayStep, Lock}
+use Rattle.w16_local.proofs.Common.{IsSomeAnd, subst, sym, MayStep, Lock}
 use Rattle.w16_local.proofs.Stepping.{lock_calls, lock_none}
 use Rattle.w16_local.proofs.LocalHeaps.local_lock.Goals as goal
 

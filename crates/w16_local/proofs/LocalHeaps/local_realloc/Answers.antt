@@ -1,8 +1,9 @@
 use Rattle.w16_local.proofs
-use proofs.Common.{IsSomeAnd, None, Option, arith, subst, sym, ◌≡◌, ◌∙◌, Kind, after_modify, Table, MayStep, Stepped, outcome, Discard, Realloc, Modify, local_realloc_law, Some, heap_of, id_named}
+use proofs.Common.{IsSomeAnd, arith, subst, sym, ◌≡◌, ◌∙◌, after_modify, MayStep, Stepped, outcome, Discard, Realloc, Modify, local_realloc_law, Some, heap_of, id_named}
 use proofs.Acting.{may_in, once_lent, served_in}
 use proofs.Calling.{discard_calls, discard_refused, discard_unasked, modify_calls, named_there, realloc_none, resize_calls, rounded_size}
-use Rattle.w16_local.specs.{declared.growth.Request.Request, Growth.InSlot, Growth.Served, Growth.WritesServed}
+use Rattle.w16_local.specs.{Growth.InSlot, Growth.Served, Growth.WritesServed}
+use Rattle.w16_local.specs.declared.growth.Purpose.TheVariants.{Resize}
 use Rattle.w16_local.proofs.LocalHeaps.local_realloc.Goals as goal
 
 pub returns-in_default-clause-step : goal.returns-in_default-clause-step
@@ -22,7 +23,7 @@ serve-requires g c = let n = c.in-Some.ensures.some in may_in n.heap (Realloc c.
 pub returns-then-size-gt0-clause-step : goal.returns-then-size-gt0-clause-step
 returns-then-size-gt0-clause-step g c = resize_calls c.in-Some.ensures.some c.args.size c.args.flags.0 (sym (c.intersects.ensures tt) ∙ c.if-intersects.false) c.serve.result c.serve.new.global.handles c.serve.new.self c.if-size-gt0.true
     (subst (λ r. InSlot c.args.global.now.handles c.args.self.now c.in-Some.field-0.slot c.serve.new.global.handles c.serve.new.self (λ old at left. Served r old at c.serve.result left))
-    (λ i. record { id = c.in-Some.field-0.id; size = c.rounded_up.ensures i; kind = None; options = c.local_options.ensures i }) c.serve.ensures.served)
+    (λ i. record { id = c.in-Some.field-0.id; size = c.rounded_up.ensures i; purpose = Resize; options = c.local_options.ensures i }) c.serve.ensures.served)
 
 pub returns-then-not-intersects-clause-step : goal.returns-then-not-intersects-clause-step
 returns-then-not-intersects-clause-step g c = discard_unasked c.in-Some.ensures.some c.args.size c.args.flags.0 (sym (c.intersects.ensures tt) ∙ c.if-intersects.false) (let none = c.if-size-gt0.false in omega (arith, none)) (sym (c.intersects-2.ensures tt) ∙ c.if-not-intersects.true)
@@ -32,11 +33,11 @@ returns-then-not-may_discard-clause-step g c =
     let n = c.in-Some.ensures.some in
     discard_refused n c.args.size c.args.flags.0 (sym (c.intersects.ensures tt) ∙ c.if-intersects.false) (let none = c.if-size-gt0.false in omega (arith, none)) (sym (c.intersects-2.ensures tt) ∙ c.if-not-intersects.false) (c.may_discard.ensures n.heap.bytes n.heap.over ∙ c.if-not-may_discard.true)
 
-pub act-requires : goal.act-requires
-act-requires g c = let n = c.in-Some.ensures.some in may_in n.heap (Discard c.in-Some.field-0.id) (c.may_discard.ensures n.heap.bytes n.heap.over ∙ c.if-not-may_discard.false)
+pub work_on-requires : goal.work_on-requires
+work_on-requires g c = let n = c.in-Some.ensures.some in may_in n.heap (Discard c.in-Some.field-0.id) (c.may_discard.ensures n.heap.bytes n.heap.over ∙ c.if-not-may_discard.false)
 
 pub returns-clause-step : goal.returns-clause-step
-returns-clause-step g c = discard_calls c.in-Some.ensures.some c.args.size c.args.flags.0 (sym (c.intersects.ensures tt) ∙ c.if-intersects.false) (let none = c.if-size-gt0.false in omega (arith, none)) (sym (c.intersects-2.ensures tt) ∙ c.if-not-intersects.false) c.act.ensures.acted
+returns-clause-step g c = discard_calls c.in-Some.ensures.some c.args.size c.args.flags.0 (sym (c.intersects.ensures tt) ∙ c.if-intersects.false) (let none = c.if-size-gt0.false in omega (arith, none)) (sym (c.intersects-2.ensures tt) ∙ c.if-not-intersects.false) c.work_on.ensures.acted
 
 pub returns-in_default-clause-fewest : goal.returns-in_default-clause-fewest
 returns-in_default-clause-fewest g c = λ rest is o named unmodified some. local_realloc_law _ _ c.args.name c.args.size c.args.flags.0 _ o is (returns-in_default-clause-step g c rest) named unmodified some
@@ -59,9 +60,9 @@ returns-clause-fewest g c = λ rest is o named unmodified some. local_realloc_la
 pub returns-then-size-gt0-clause-written : goal.returns-then-size-gt0-clause-written
 returns-then-size-gt0-clause-written g c =
     let n = c.in-Some.ensures.some in
-    served_in n.heap c.serve.new.global c.args.flags.0 c.args.size (λ at id. id_named (heap_of at) c.args.name ≡ Some id) None c.in-Some.field-0.id n.has c.if-size-gt0.true
+    served_in n.heap c.serve.new.global c.args.flags.0 c.args.size (λ at id. id_named (heap_of at) c.args.name ≡ Some id) Resize c.in-Some.field-0.id n.has c.if-size-gt0.true
     (subst (λ r. InSlot c.args.global.now.handles c.args.self.now c.in-Some.field-0.slot c.serve.new.global.handles c.serve.new.self (λ old at left. WritesServed r old at c.args.global.now.written left.loading.handles c.serve.new.global.written))
-    (λ i. record { id = c.in-Some.field-0.id; size = c.rounded_up.ensures i; kind = None; options = c.local_options.ensures i }) c.serve.ensures.written)
+    (λ i. record { id = c.in-Some.field-0.id; size = c.rounded_up.ensures i; purpose = Resize; options = c.local_options.ensures i }) c.serve.ensures.written)
 
 pub returns-clause-written : goal.returns-clause-written
-returns-clause-written g c = let n = c.in-Some.ensures.some in once_lent n.heap c.act.new.global c.args.flags.0 c.args.size (λ at id. id_named (heap_of at) c.args.name ≡ Some id) c.act.ensures.acted c.act.ensures.lent
+returns-clause-written g c = let n = c.in-Some.ensures.some in once_lent n.heap c.work_on.new.global c.args.flags.0 c.args.size (λ at id. id_named (heap_of at) c.args.name ≡ Some id) c.work_on.ensures.acted c.work_on.ensures.lent

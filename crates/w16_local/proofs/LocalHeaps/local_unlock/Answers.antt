@@ -1,4 +1,4 @@
-use Rattle.w16_local.proofs.Common.{IsSomeAnd, Option, subst, sym, Table, MayStep, Unlock}
+use Rattle.w16_local.proofs.Common.{IsSomeAnd, subst, sym, MayStep, Unlock}
 use Rattle.w16_local.proofs.Stepping.{unlock_calls, unlock_none}
 use Rattle.w16_local.proofs.LocalHeaps.local_unlock.Goals as goal
 

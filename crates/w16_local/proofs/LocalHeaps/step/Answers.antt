@@ -1,5 +1,5 @@
 use Rattle.w16_local.proofs
-use proofs.Common.{◌≡◌, OnErr, sym, subst, ◌∙◌, arith, Table, IsLocalTable, MayStep, Turns, after_step, outcome}
+use proofs.Common.{◌≡◌, OnErr, sym, subst, ◌∙◌, arith, IsLocalTable, MayStep, Turns, after_step, outcome}
 use proofs.Locals.{here, in_range, not_none}
 use proofs.Stepping.{holds_in, known_in, listed_stepped, same_tables, stepped}
 use Rattle.std.specs.FinMap as finmap

@@ -1,4 +1,4 @@
-use Rattle.w16_local.proofs.Common.{List, subst, sym, ℕ, IsListed}
+use Rattle.w16_local.proofs.Common.{subst, sym, IsListed}
 use Rattle.w16_local.proofs.Locals.{listed_last, listed_more}
 use Rattle.w16_local.proofs.init.list_slot.Goals as goal
 

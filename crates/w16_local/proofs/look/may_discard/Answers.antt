@@ -1,4 +1,4 @@
-use Rattle.w16_local.proofs.Common.{Bool, None, Some, ap, cond, false, lt-ltb, le-ltb, sym, ◌∙◌, is_discardable}
+use Rattle.w16_local.proofs.Common.{None, Some, ap, cond, false, lt-ltb, le-ltb, sym, ◌∙◌, is_discardable}
 use Rattle.w16_local.proofs.Looks.{discard_told}
 use Rattle.w16_local.proofs.look.may_discard.Goals as goal
 

@@ -1,4 +1,4 @@
-use Rattle.w16_local.proofs.Common.{None, Some, ap, nat_le, refl, sym, ◌∙◌, option_copied, Span, Table}
+use Rattle.w16_local.proofs.Common.{None, Some, ap, nat_le, refl, sym, ◌∙◌, option_copied}
 use Rattle.w16_local.proofs.Locals.{is_there, none_past}
 use Rattle.w16_local.proofs.Sweeping.{range_told, told_none}
 use Rattle.w16_local.proofs.sweep.has_range.Goals as goal

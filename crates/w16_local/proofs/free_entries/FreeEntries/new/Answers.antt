@@ -1,4 +1,4 @@
-use Rattle.std.proofs.Common.{List, ℕ, subst, sym}
+use Rattle.std.proofs.Common.{subst, sym}
 use Rattle.w16_local.specs.FreeEntries.{AreKept}
 use Rattle.w16_local.proofs.FreeEntries.{zeros_kept}
 use Rattle.w16_local.proofs.free_entries.FreeEntries.new.Goals as goal

@@ -1,6 +1,6 @@
 use Rattle.w16_local.proofs
 use proofs.OneAct as M
-use proofs.Common.{List, ap, if◌then◌else◌, inl, inr, subst, sym, ◌∙◌, ℕ, Heap, moved_bytes, Table, heap_in, counted, ArenaState, Acted, LocalHeapInvariant, Alloc}
+use proofs.Common.{ap, if◌then◌else◌, inl, inr, subst, sym, ◌∙◌, moved_bytes, heap_in, counted, Acted, LocalHeapInvariant, Alloc}
 use proofs.Entries.{is_local}
 use proofs.OneAct.{absent, known, may_shown, on_err}
 use Rattle.w16_local.proofs.heap.LocalHeap.alloc.Goals as goal

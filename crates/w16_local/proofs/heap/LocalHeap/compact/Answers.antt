@@ -1,4 +1,4 @@
-use Rattle.w16_local.proofs.Common.{ap, arith, inl, inr, ◌∙◌, cases_lt, Heap, moved_bytes, Table, heap_in, counted, Compact}
+use Rattle.w16_local.proofs.Common.{ap, arith, inl, inr, ◌∙◌, cases_lt, moved_bytes, heap_in, counted, Compact}
 use Rattle.w16_local.proofs.OneAct.{compact_acted, compact_bound, compact_kept, may_shown}
 use Rattle.w16_local.proofs.heap.LocalHeap.compact.Goals as goal
 

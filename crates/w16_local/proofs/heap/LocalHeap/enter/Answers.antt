@@ -1,4 +1,4 @@
-use Rattle.w16_local.proofs.Common.{List, ℕ, sym, subst, LocalHeapInvariant}
+use Rattle.w16_local.proofs.Common.{sym, subst, LocalHeapInvariant}
 use Rattle.w16_local.proofs.OneHeap.{kept_entered, turns}
 use Rattle.w16_local.proofs.heap.LocalHeap.enter.Goals as goal
 

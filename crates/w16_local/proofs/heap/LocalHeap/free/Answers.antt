@@ -1,4 +1,4 @@
-use Rattle.w16_local.proofs.Common.{List, ap, arith, is_ok, subst, sym, ◌∙◌, ℕ, false≢true, LocalHeapInvariant, Free}
+use Rattle.w16_local.proofs.Common.{ap, arith, is_ok, subst, sym, ◌∙◌, false≢true, LocalHeapInvariant, Free}
 use Rattle.w16_local.proofs.OneAct.{entry_lt, free_done, free_kept, may_shown}
 use Rattle.w16_local.proofs.heap.LocalHeap.free.Goals as goal
 

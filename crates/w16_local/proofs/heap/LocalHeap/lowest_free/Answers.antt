@@ -1,4 +1,4 @@
-use Rattle.w16_local.proofs.Common.{◌∙◌, IfNone, ℕ, Option, arith, subst, sym, Table, IsFull, IsLowest}
+use Rattle.w16_local.proofs.Common.{◌∙◌, IfNone, arith, subst, sym, IsFull, IsLowest}
 use Rattle.w16_local.proofs.OneHeap.{full, lowest}
 use Rattle.w16_local.proofs.heap.LocalHeap.lowest_free.Goals as goal
 

@@ -1,4 +1,4 @@
-use Rattle.w16_local.proofs.Common.{ap, subst, sym, ArenaState, LocalHeapInvariant}
+use Rattle.w16_local.proofs.Common.{ap, subst, sym, LocalHeapInvariant}
 use Rattle.w16_local.proofs.OneHeap.{kept_new}
 use Rattle.w16_local.proofs.heap.LocalHeap.new.Goals as goal
 

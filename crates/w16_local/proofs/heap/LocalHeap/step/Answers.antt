@@ -1,4 +1,4 @@
-use Rattle.w16_local.proofs.Common.{◌≡◌, Ok, Result, subst, sym, Refusal, Heap, TableOp, Turns, after_step}
+use Rattle.w16_local.proofs.Common.{◌≡◌, Ok, Result, subst, sym, Refusal, Heap, Turns, after_step}
 use Rattle.w16_local.proofs.OneHeap.{enters_turn}
 use Rattle.w16_local.proofs.heap.LocalHeap.step.Goals as goal
 

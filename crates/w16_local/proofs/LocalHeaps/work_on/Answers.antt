@@ -1,6 +1,6 @@
-use Rattle.w16_local.proofs.Common.{◌≡◌, ℕ, List, length, IsSomeAnd, sym, subst, ◌∙◌, ap, is_some, arith, Some, counted, Global, IsLocalTable}
+use Rattle.w16_local.proofs.Common.{◌≡◌, length, IsSomeAnd, sym, subst, ◌∙◌, ap, is_some, arith, Some, counted, IsLocalTable}
 use Rattle.w16_local.proofs.{Acting.acted_in, Acting.may_lent, Locals.here, Locals.in_range, Locals.not_none, Stepping.listed_stepped, Stepping.tables_stepped}
-use Rattle.w16_local.proofs.LocalHeaps.act.Goals as goal
+use Rattle.w16_local.proofs.LocalHeaps.work_on.Goals as goal
 
 pub index_mut-requires : goal.index_mut-requires
 index_mut-requires g c = let lt = in_range _ c.self.inside.heaps.items c.self.view_is c.args.slot (ap is_some c.requires.was) in omega (arith, lt, c.self.inside.heaps.ok.0)
