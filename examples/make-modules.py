@@ -1,6 +1,7 @@
 #!/usr/bin/env python3
 """Writes the module files of the examples into a folder: TLIB.DLL, a library, TAPP.EXE, an application that imports from it, TRES.DLL, a library of a
-resource, TDATA.DLL, a library with two fixed segments, TMAIN.EXE, an application with a stack, and KERNEL.DLL, a stub of KERNEL.
+resource, TDATA.DLL, a library with two fixed segments, TMAIN.EXE, an application with a stack, KERNEL.DLL, a stub of KERNEL, and TTOP.EXE, which
+refers to TLIB.DLL and TRING1.DLL, which refers to TRING2.DLL, which refers to TRING1.DLL.
 
 usage: make-modules.py FOLDER
 """
@@ -103,6 +104,15 @@ def fixed_data():
     return module(LIBRARY, [(DATA, bytes(64), []), (DATA, bytes(64), [])], names(b"TDATA"), [], b"", b"\0", 0, b"")
 
 
+def referring(flags, name, others):
+    """No segments: nothing but references to other modules."""
+    imported, references = b"\0", []
+    for other in others:
+        references.append(len(imported))
+        imported += text(other)
+    return module(flags, [], names(name), references, imported, b"\0", 0, b"")
+
+
 # Entries of KERNEL, by their ordinals in Windows 3.1, with the bytes of their arguments, as far as this machine has their calls, and two more that a
 # program needs to run; and the constants by which pointers go on from one selector of an object to the next.
 KERNEL = {
@@ -147,6 +157,9 @@ def main():
     (folder / "TDATA.DLL").write_bytes(fixed_data())
     (folder / "TMAIN.EXE").write_bytes(application_with_stack())
     (folder / "KERNEL.DLL").write_bytes(kernel())
+    (folder / "TTOP.EXE").write_bytes(referring(0, b"TTOP", [b"TLIB", b"TRING1"]))
+    (folder / "TRING1.DLL").write_bytes(referring(LIBRARY, b"TRING1", [b"TRING2"]))
+    (folder / "TRING2.DLL").write_bytes(referring(LIBRARY, b"TRING2", [b"TRING1"]))
 
 
 if __name__ == "__main__":

@@ -257,8 +257,8 @@ static inline bool w16_is_discarded(const w16_descriptor *told) {
 
 /* Module files. They are kept in memory. A file's name is length bytes of text; letters of ASCII may differ in case. */
 
-/* Adds a file, whose name and bytes are copied. W16_EXISTS: a file has that name, and stays as it is, since a module may be loaded from it.
- * W16_BAD_SIZE: the name is empty. */
+/* Adds a file, whose name and bytes are copied. W16_EXISTS: a file has that name, and stays as it is, since a module may be loaded from it
+ * (w16_remove_file takes it away). W16_BAD_SIZE: the name is empty. */
 uint8_t w16_add_file(w16 *machine, const char *name, size_t length, const uint8_t *bytes, size_t count);
 /* Takes a file away, and gives its memory back. W16_IN_USE: a module is loaded from it, which reads its code there when that was discarded.
  * W16_NO_FILE: no file has the name. */
@@ -318,9 +318,21 @@ uint8_t w16_module_from(w16 *machine, uint16_t from, uint16_t *handle);
  * W16_BAD_SIZE: the buffer is shorter. A module's name has at most 255 bytes. */
 uint8_t w16_module_name(w16 *machine, uint16_t handle, char *name, size_t room, size_t *length);
 uint8_t w16_module_file(w16 *machine, uint16_t handle, char *name, size_t room, size_t *length);
-/* The handle of the module or built-in that a module refers to, by its place from 0 in its file's table; W16_END after the last. So a client that runs a
- * library's first routine before those of its importers goes to what a new module refers to first. */
+/* The handle of the module or built-in that a module refers to, by its place from 0 in its file's table; W16_END after the last. */
 uint8_t w16_module_import(w16 *machine, uint16_t handle, size_t place, uint16_t *import);
+
+/* How many module handles there can be, counted from 0: a table of that many bytes has one for each. A byte that isn't 0 marks a module. */
+#define W16_MODULE_HANDLES 233
+
+/* The next module that was loaded, of those that a table doesn't mark; it is marked there. W16_END: the table marks all that it has a byte for. A
+ * module comes after those that its file refers to, unless they lead back to it by what they refer to: so a client runs first routines in this order.
+ * With a table of zeros at first, these are after each load the modules that it brought:
+ *     while (w16_next_loaded(&machine, marks, W16_MODULE_HANDLES, &handle) == W16_DONE)
+ * A handle is given again to a later module, so a client takes away the mark of each module that goes. */
+uint8_t w16_next_loaded(w16 *machine, uint8_t *marks, size_t count, uint16_t *handle);
+/* The next module that w16_free_library or w16_free_module of a handle would free, once those are gone that a table marks; it is marked there. No module
+ * uses it then. W16_END: the table marks all that would go. A client begins with zeros, runs their last routines in this order, and then frees. */
+uint8_t w16_would_free(w16 *machine, uint16_t ended, uint8_t *marks, size_t count, uint16_t *handle);
 /* The names of a module's entries, by an index from 0, in the order of the file: a name of at most 255 bytes, its ordinal, and the far pointer that
  * w16_get_proc_address answers for this ordinal. W16_END after the last; W16_BAD_SIZE: the buffer is shorter. */
 uint8_t w16_export_from(w16 *machine, uint16_t handle, size_t index, char *name, size_t room, size_t *length, uint16_t *ordinal, uint32_t *pointer);

@@ -1,4 +1,5 @@
--- Which of the commands that change something are answered by a word, which by a double word, and which by a fault.
+-- Which commands are answered by a word, which by a double word, and which by a fault. Questions on the global heap aren't among them: each has a call
+-- of its own.
 use Rattle.w16_model.specs.Calls.HandleCommand.{GlobalAlloc, GlobalFree, GlobalLock, GlobalUnlock, GlobalCompact, GlobalLRUNewest, GlobalLRUOldest}
 use Rattle.w16_model.specs.Far.FarCommand.{Write, Fill}
 use Rattle.w16_loading.specs.Families.LoadingCommand.{OfHandles, OfResizes, OfFar, OfModules, OfResources}

@@ -1,5 +1,5 @@
 -- What C is told of modules that are loaded.
-use Rattle.std.specs.Prelude.{◌≡◌, ◌⊎◌, ℕ, List, Option, Some, None, IfSome, option_and_then, option_map, slice_get}
+use Rattle.std.specs.Prelude.{◌≡◌, ◌⊎◌, ℕ, List, Option, Some, None, IfSome, option_and_then, option_map, slice_get, slice_set}
 use Rattle.w16_loading.specs.Modules.{Module, Modules, module_at}
 use Rattle.w16_kernel.specs.declared.kernel.modules.Start.{Start}
 use Rattle.w16_kernel.specs.Asked.{IsFirstModule, IsStart, segment_selector}
@@ -41,3 +41,8 @@ TellsExport nothing export status before after was is others_before others_after
     TellsName nothing (option_map (λ e. e.0) export) status before after was is
     × Stays status others_before others_after
     × IfSome export (λ e. status ≡ DONE → others_after ≡ e.1)
+
+-- what is found next is marked in a table, and answered
+abbrev pub Marks : Option ℕ → ℕ → List ℕ → List ℕ → ℕ → ℕ → Type 0
+Marks None status before after was is = (status ≡ END) × (after ≡ before) × (is ≡ was)
+Marks (Some next) status before after was is = (status ≡ DONE) × (after ≡ slice_set before next 1) × (is ≡ next)

@@ -32,7 +32,7 @@ pub use lent::{Lent, w16_find, w16_memory};
 pub use life::{w16_free, w16_new, w16_version};
 pub use listing::{
     w16_export_from, w16_module_file, w16_module_from, w16_module_import, w16_module_name,
-    w16_module_segment, w16_module_start,
+    w16_module_segment, w16_module_start, w16_next_loaded, w16_would_free,
 };
 pub use local::{
     w16_ds, w16_local_alloc, w16_local_compact, w16_local_discard, w16_local_flags, w16_local_free,

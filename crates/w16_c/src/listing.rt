@@ -1,11 +1,12 @@
 //! Questions on modules that are loaded, which change nothing. `NO_MODULE` is that no module has the handle, or only a built-in has it, `END` that nothing
 //! is left of what is asked for, and `BAD_SIZE` that the buffer is shorter than the name.
-ghost use Rattle.std.specs.Prelude.{◌≡◌, option_map};
+ghost use Rattle.std.specs.Prelude.{◌≡◌, ◌<◌, ℕ, Option, IfSome, length, option_map};
 ghost use Rattle.std.specs.FinMap as finmap;
 ghost use Rattle.w16_loading.specs.Modules.{module_at, name_of};
 ghost use Rattle.w16_kernel.specs.Asked.{export_in};
+ghost use Rattle.w16_kernel.specs.Marks.{ComesNext, GoesNext};
 ghost use Rattle.w16_c.specs.Files.{TellsName};
-ghost use Rattle.w16_c.specs.Listing.{end_of, modules_of, Asks, TellsExport, TellsImport, TellsModule, TellsSegment, TellsStart, Told};
+ghost use Rattle.w16_c.specs.Listing.{end_of, modules_of, Asks, Marks, TellsExport, TellsImport, TellsModule, TellsSegment, TellsStart, Told};
 
 use crate::files::told_name;
 use crate::held::Held;
@@ -200,4 +201,59 @@ pub extern "C" fn w16_export_from(
     );
     put_back(held, alloc, kernel);
     status
+}
+
+/// Marks a handle in a table, and answers it, if there is one.
+fn marked(next: Option<u16>, marks: &mut [u8], handle: &mut u16) -> u8
+    requires { IfSome next (λ next. next < length marks.old) }
+    ensures { Marks next result marks.old marks.new handle.old handle.new }
+{
+    match next {
+        Some(next) => {
+            marks[usize::from(next)] = 1;
+            *handle = next;
+            DONE
+        }
+        None => END,
+    }
+}
+
+/// The next module that was loaded, of those that a table doesn't mark, a byte for each module handle; it is marked there. It comes after those that its
+/// file refers to, except where they lead back to it.
+#[unsafe(no_mangle)]
+pub extern "C" fn w16_next_loaded(
+    alloc: Global,
+    held: &mut Held,
+    marks: &mut [u8],
+    handle: &mut u16,
+) -> u8
+    ensures { Asks held.old result held.new ((next : Option ℕ) × ComesNext (modules_of held.old) marks.old next × Marks next result marks.old marks.new handle.old handle.new)
+        ((marks.new ≡ marks.old) × (handle.new ≡ handle.old)) }
+{
+    let Some(kernel) = taken(held, alloc) else {
+        return NO_MACHINE;
+    };
+    let next = kernel.next_loaded(marks);
+    put_back(held, alloc, kernel);
+    marked(next, marks, handle)
+}
+
+/// The next module that `FreeLibrary` of a handle would free, once those are gone that such a table marks; it is marked there.
+#[unsafe(no_mangle)]
+pub extern "C" fn w16_would_free(
+    alloc: Global,
+    held: &mut Held,
+    ended: u16,
+    marks: &mut [u8],
+    handle: &mut u16,
+) -> u8
+    ensures { Asks held.old result held.new ((next : Option ℕ) × GoesNext (modules_of held.old) ended marks.old next × Marks next result marks.old marks.new handle.old handle.new)
+        ((marks.new ≡ marks.old) × (handle.new ≡ handle.old)) }
+{
+    let Some(kernel) = taken(held, alloc) else {
+        return NO_MACHINE;
+    };
+    let next = kernel.next_freed(ended, marks);
+    put_back(held, alloc, kernel);
+    marked(next, marks, handle)
 }

@@ -330,16 +330,23 @@ fn names_are_told(alloc: Global, held: &mut Held) -> bool {
         && (length, ordinal, pointer) == (2, 1, 0x0107_0002)
 }
 
-/// Whether TGO's file goes only after TGO.
-fn file_goes(alloc: Global, held: &mut Held) -> bool {
-    let mut left = 1;
+/// Whether TGO is told once of those that were loaded and once of those that would go, and its file goes only after it.
+fn module_goes(alloc: Global, held: &mut Held) -> bool {
+    let (mut loaded, mut gone) = ([0; 64], [0; 64]);
+    let (mut handles, mut left) = ([0; 4], 1);
     let statuses = [
+        w16_next_loaded(alloc, held, &mut loaded, &mut handles[0]),
+        w16_next_loaded(alloc, held, &mut loaded, &mut handles[1]),
+        w16_would_free(alloc, held, 0x22, &mut gone, &mut handles[1]),
+        w16_would_free(alloc, held, 0x21, &mut gone, &mut handles[2]),
+        w16_would_free(alloc, held, 0x21, &mut gone, &mut handles[3]),
         w16_remove_file(alloc, held, b"tgo.exe"),
         w16_free_library(alloc, held, 0x21, &mut left),
         w16_remove_file(alloc, held, b"tgo.exe"),
         w16_remove_file(alloc, held, b"TGO.EXE"),
     ];
-    statuses == [IN_USE, DONE, DONE, NO_FILE] && left == 0
+    statuses == [DONE, END, END, DONE, END, IN_USE, DONE, DONE, NO_FILE]
+        && (handles == [0x21, 0, 0x21, 0] && left == 0 && loaded[0x21] == 1)
 }
 
 #[test]
@@ -348,7 +355,7 @@ fn modules_are_told_one_by_one(rt: HostRuntime) {
     let (mut held, is_begun) = begun(alloc, 4096);
     let added = w16_add_file(alloc, &mut held, b"TGO.EXE", TGO) == DONE;
     let told = modules_are_told(alloc, &mut held) && names_are_told(alloc, &mut held);
-    let good = told && file_goes(alloc, &mut held);
+    let good = told && module_goes(alloc, &mut held);
     assert!(rt; is_freed(alloc, held) && is_begun && added && good);
 }
 

@@ -7,7 +7,7 @@ pub use Rattle.std.specs.List.{slice_get}
 pub use Rattle.std.specs.Prelude.{IfNone, IfOk, OnErr, MatchBool, MatchOption, Ok, Result, ◌%◌, ◌+◌, ◌-◌, ◌/◌, ◌≢◌}
 pub use Rattle.w16_format.specs.Ne.{ne_format}
 pub use Rattle.w16_format.specs.Tables.{segment_in, tables_in}
-pub use Rattle.w16_global.proofs.Common.{Global, common_steps, take_more}
+pub use Rattle.w16_global.proofs.Common.{common_steps, take_more}
 pub use Rattle.w16_kernel.specs.Fetching.{IsAbsent, IsSourceFor, KernelFetch, Refetches}
 pub use Rattle.w16_resource.specs.Parts.{IsLoadingOver}
 pub use Rattle.w16_kernel.specs.Parts.{IsWorldOver, KernelStep, OnLocals, OthersStay, ReadsCode, Unswept, discardable_beside, may_take_bytes}
@@ -34,7 +34,7 @@ pub use Rattle.w16_machine.proofs.Common.{arith, bytes_at, bytes_in, cond, data_
 pub use Rattle.w16_machine.proofs.Common.{has_range, inl, inr, is_in_order, is_member, is_some, left_in, length, nat_cmp, nat_cmp-IsAntisymmetric}
 pub use Rattle.w16_machine.proofs.Common.{nat_cmp_total, needs_fetch, object_at, offset_in, option_map, owned_at}
 pub use Rattle.w16_machine.proofs.Common.{refl, refuses_write, reply_of_far, same_map, selector_in, subst, sym, take, taken_here, taken_other, true, unwrap_or, with_handles, ℕ, ◌&&◌, ◌<◌, ◌∙◌, ◌∷◌}
-pub use Rattle.w16_machine.proofs.Common.{◌≡◌, ◌≤◌, ◌⊎◌}
+pub use Rattle.w16_machine.proofs.Common.{◌≡◌, ◌≤◌}
 unfoldable pub use Rattle.w16_machine.proofs.Common.{repeated}
 pub use Rattle.w16_machine.proofs.Runs.{run_append}
 pub use Rattle.w16_machine.proofs.LocalStays.{heaps_law}

@@ -5,6 +5,7 @@ pub mod Common
 pub mod Descriptors
 pub mod FarSteps
 pub mod Lent
+pub mod Marks
 pub mod Modules
 pub mod Refetching
 pub mod Rooms

@@ -1,5 +1,5 @@
 -- Questions on handles, which change nothing.
-use Rattle.std.specs.Prelude.{List, [], ◌∷◌}
+use Rattle.std.specs.Prelude.{[], ◌∷◌}
 use Rattle.w16_model.specs.Calls.{HandleCommand}
 use Rattle.w16_loading.specs.{Families.LoadingCommand.OfHandles, Replies.Reply}
 use Rattle.w16_machine.specs.{World.World, Machine.Command.OfLoading}

@@ -1,19 +1,21 @@
 //! The machine's state, and its steps.
-ghost use Rattle.std.specs.Prelude.{◌≡◌, ◌+◌, ◌%◌, ◌^◌, ◌<◌, ◌≤◌, List, [], ◌∷◌, map, slice_get, All, None, IfSome, IfOk, IfErr, OnOk, OnErr};
+ghost use Rattle.std.specs.Prelude.{◌≡◌, ◌+◌, ◌%◌, ◌^◌, ◌<◌, ◌≤◌, List, map, slice_get, All, None, IfSome, IfOk, IfErr, OnOk, OnErr};
 ghost use Rattle.w16_model.specs.Handles.{handle_of};
 ghost use Rattle.w16_model.specs.{Law.IsFirstItem, Walk.IsItem};
-ghost use Rattle.w16_machine.specs.Law.{IsSame, IsWorldWalk, empty_world};
+ghost use Rattle.w16_machine.specs.Law.{IsWorldWalk, empty_world};
 ghost use Rattle.w16_machine.specs.Machine.{Event, Run};
 ghost use Rattle.w16_writes.specs.Promises.{Promises};
 ghost use Rattle.w16_store.specs.Files.{file_of};
 ghost use Rattle.w16_kernel.specs.Growing.{AddsFile, IsNotAdded, IsNotRemoved, RemovesFile};
+ghost use Rattle.w16_kernel.specs.Made.{IsMade};
 ghost use Rattle.w16_kernel.specs.Parts.{KernelStep};
-ghost use Rattle.w16_kernel.specs.Runs.{command_of, reply_of, answer_of, IsCall, IsReply, TakesMemory};
+ghost use Rattle.w16_kernel.specs.Runs.{command_of, answer_of, IsCall};
 ghost use Rattle.w16_kernel.specs.Stops.{StopsEarly};
 
 mod ask;
 pub mod facts;
 mod lent;
+pub mod marks;
 pub mod modules;
 mod peek;
 mod questions;
@@ -101,11 +103,7 @@ impl<S: Store + Drop, A: Allocator + Copy> Kernel<S, A> {
         room: &'r mut [u8; MOST_READ],
     ) -> Result<Reply<'r>, AllocError>
         requires { IsCall call.now }
-        ensures step { IfOk result (λ reply. KernelStep S.is_honest self.old (command_of call.now) (reply_of reply) self.new) }
-        ensures promises { IfOk result (λ reply. Promises self.old (record { command = command_of call.now; reply = reply_of reply; after = self.new } ∷ [])) }
-        ensures short { IfOk result (λ reply. IsReply reply) }
-        ensures wanted { OnErr result (TakesMemory self.old (command_of call.now)) }
-        ensures refused { OnErr result (IsSame self.old self.new) }
+        ensures { IsMade (KernelStep S.is_honest) self.old call.now result self.new }
     {
         made(&mut self.parts, call, room)
     }

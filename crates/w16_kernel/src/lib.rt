@@ -17,6 +17,7 @@ pub use call::{Answer, Call, Chunk, Label, MOST_FILLED, MOST_READ, Reply};
 pub use growing::{AddFault, GrowingStore, MOST_NAME, RemoveFault};
 pub use kernel::Kernel;
 pub use kernel::facts::{Facts, Source};
+pub use kernel::marks::MODULE_HANDLES;
 pub use kernel::modules::{Export, Start};
 pub use kernel::why::Why;
 pub use machine::Machine;

@@ -1,13 +1,13 @@
 //! What a run asks of a machine.
-ghost use Rattle.std.specs.Prelude.{◌≡◌, ◌+◌, ◌^◌, ◌<◌, ◌≤◌, List, [], ◌∷◌, IfSome, IfOk, OnErr};
+ghost use Rattle.std.specs.Prelude.{◌+◌, ◌^◌, ◌<◌, ◌≤◌, List, IfSome};
 ghost use Rattle.w16_model.specs.Handles.{handle_of};
 ghost use Rattle.w16_model.specs.{Law.IsFirstItem, Walk.IsItem};
 ghost use Rattle.w16_loading.specs.Replies as printed;
-ghost use Rattle.w16_machine.specs.{Law.IsSame, Law.IsWorldWalk, World.World};
+ghost use Rattle.w16_machine.specs.{Law.IsWorldWalk, World.World};
 ghost use Rattle.w16_machine.specs.Machine.{Command};
-ghost use Rattle.w16_writes.specs.Promises.{Promises};
+ghost use Rattle.w16_kernel.specs.Made.{IsMade};
 ghost use Rattle.w16_kernel.specs.Parts.{KernelStep};
-ghost use Rattle.w16_kernel.specs.Runs.{command_of, reply_of, IsCall, IsReply, TakesMemory};
+ghost use Rattle.w16_kernel.specs.Runs.{IsCall};
 
 use crate::call::{Call, MOST_READ, Reply};
 use crate::kernel::Kernel;
@@ -33,11 +33,7 @@ pub trait Machine {
         room: &'r mut [u8; MOST_READ],
     ) -> Result<Reply<'r>, AllocError>
         requires { IsCall call.now }
-        ensures step { IfOk result (λ reply. steps (world self.old) (command_of call.now) (reply_of reply) (world self.new)) }
-        ensures promises { IfOk result (λ reply. Promises (world self.old) (record { command = command_of call.now; reply = reply_of reply; after = world self.new } ∷ [])) }
-        ensures short { IfOk result (λ reply. IsReply reply) }
-        ensures wanted { OnErr result (TakesMemory (world self.old) (command_of call.now)) }
-        ensures refused { OnErr result (IsSame (world self.old) (world self.new)) };
+        ensures { IsMade steps (world self.old) call.now result (world self.new) };
 
     /// The first part of the heap that begins at an address or above it; none after the last. A whole walk asks from 0 on, then from the
     /// end of each part.

@@ -1,12 +1,12 @@
 //! One step of the machine over its parts.
-ghost use Rattle.std.specs.Prelude.{◌≡◌, ◌<◌, [], ◌∷◌, List, length, IfOk, OnOk, OnErr};
+ghost use Rattle.std.specs.Prelude.{◌≡◌, ◌<◌, List, length, IfOk, OnOk, OnErr};
 ghost use Rattle.w16_model.specs.Handles.{handle_of};
 ghost use Rattle.w16_model.specs.Walk.{IsWalk};
 ghost use Rattle.w16_resource.specs.Parts.{IsLoadingOver};
 ghost use Rattle.w16_local.specs.Parts.{with_parts};
 ghost use Rattle.w16_machine.specs.World.{World};
 ghost use Rattle.w16_machine.specs.Law.{IsCommand, IsSame};
-ghost use Rattle.w16_writes.specs.Promises.{Promises};
+ghost use Rattle.w16_kernel.specs.Made.{IsMade};
 ghost use Rattle.w16_kernel.specs.Runs.{command_of, reply_of, HasRoom, IsCall, IsReply, TakesMemory};
 ghost use Rattle.w16_kernel.specs.Parts as meaning;
 ghost use Rattle.w16_kernel.specs.Parts.{IsOfLocals, IsOfModules, IsOnGlobal, IsSameLoading, IsWorldOver, KernelStep, OnGlobal, OnLocals, OnModules, OthersStay, Unswept, with_surviving};
@@ -262,11 +262,7 @@ pub fn made<'r, S: Store + Drop, A: Allocator + Copy>(
     requires call { IsCall call.now }
     requires room { HasRoom call.now (length room.old) }
     ensures world { IsWorldOver S.is_honest parts.new }
-    ensures step { IfOk result (λ reply. KernelStep S.is_honest parts.old (command_of call.now) (reply_of reply) parts.new) }
-    ensures promises { IfOk result (λ reply. Promises parts.old (record { command = command_of call.now; reply = reply_of reply; after = parts.new } ∷ [])) }
-    ensures short { IfOk result (λ reply. IsReply reply) }
-    ensures wanted { OnErr result (TakesMemory parts.old (command_of call.now)) }
-    ensures refused { OnErr result (IsSame parts.old parts.new) }
+    ensures made { IsMade (KernelStep S.is_honest) parts.old call.now result parts.new }
 {
     refresh(parts);
     let before = discardable_beside(parts, call.object_slot(0));

@@ -1,5 +1,5 @@
 -- The names of definitions and of lower crates that the proofs of this crate cite, passed on from one place. Declares nothing.
-pub use Rattle.std.proofs.Common.{Bool, Err, List, None, Ok, OnErr, Option, Result, Some, [], add-one, ap, append-nil, append_assoc, arith, codes, cond, drop, false, get_or, inl, inr, length, length-append, length-drop}
+pub use Rattle.std.proofs.Common.{Bool, Err, List, None, Ok, OnErr, Option, Result, Some, [], add-one, ap, append-nil, append_assoc, arith, codes, drop, false, get_or, inl, inr, length, length-append, length-drop}
 pub use Rattle.std.proofs.Common.{length-take, map, mul-le-mul_left, pow-suc, refl, rules, subst, suc, sym, take, take-append-drop, true, zero, ℕ, ◌%◌, ◌*◌, ◌++◌, ◌+◌, ◌-◌, ◌/◌, ◌<◌, ◌^◌, ◌∙◌, ◌∷◌, ◌≡◌, ◌≢◌, ◌≤◌, ◌⊎◌}
 pub use Rattle.std.proofs.KnownBytes.{Appends-kept, Appends-nil, Appends-trans, Consumes-nil, Consumes-trans, Keeps-refl}
 pub use Rattle.std.proofs.Math.Nat.{one-le-pow}
@@ -25,7 +25,7 @@ pub use Rattle.hex.specs.declared.error.FromHexError.{FromHexError}
 pub use Rattle.hex.specs.declared.error.FromHexError.TheVariants.{InvalidHexCharacter}
 pub use Rattle.w16_global.proofs.Common.{cut_on}
 pub use Rattle.w16_kernel.proofs.Common.{Command, Event, command_of, common_steps, promised_append, promised_none, reply_of, run_append, ◌&&◌}
-pub use Rattle.w16_loading.proofs.Common.{IsTrue, MatchOption, count_by, if◌then◌else◌, list_all, nat_lt, slice_index, ◌==◌}
+pub use Rattle.w16_loading.proofs.Common.{MatchOption, count_by, if◌then◌else◌, list_all, nat_lt, slice_index, ◌==◌}
 pub use Rattle.w16_loading.specs.File.{Label}
 pub use Rattle.w16_machine.specs.Law.{IsWorldWalk}
 pub use Rattle.w16_model.proofs.Common.{IsFirstItem, IsItem, cases_lt, nat_tests}
@@ -34,7 +34,7 @@ pub use Rattle.w16_model.specs.declared.Item.{Item}
 pub use Rattle.w16_script.specs.Feeding.{FailsAt, Feeds, Stops, StopsHere}
 pub use Rattle.w16_script.specs.Grammar.{AreArguments, Argument, GoesTo, IsArgument, IsLabel, IsText, Makes, Reads, Said, Spells, all_names, command_with, is_silent, parameters_of, target_of, text_of}
 pub use Rattle.w16_script.specs.Laws.{is_plain}
-pub use Rattle.w16_script.specs.Numbers.{BeginsWith, IsDecimal, IsForm, IsHexadecimal, IsLiteral, IsNumber, IsOfRegister, IsSum, is_digit, place_value}
+pub use Rattle.w16_script.specs.Numbers.{BeginsWith, IsForm, IsLiteral, IsNumber, IsOfRegister, IsSum, is_digit, place_value}
 pub use Rattle.w16_script.specs.Output.{Prints, PrintsLine, RunsLines, has_reply}
 pub use Rattle.w16_script.specs.Printed.{end_text, error_text, item_text, owner_text, reply_text, walk_text}
 pub use Rattle.w16_script.specs.Progress.{IsOver, IsWithinLimits, Overflows, Progress, fresh, room_of, with_bytes}

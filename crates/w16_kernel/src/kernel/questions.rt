@@ -12,7 +12,6 @@ impl<S: Store + Drop, A: Allocator + Copy> Kernel<S, A> {
     pub fn global_size(&self, handle: u16) -> u32
         ensures { IsAnswered S.is_honest self.now (GlobalSize handle) (Dword result) }
     {
-        self.reveal_world();
         self.parts.loading.global.global_size(handle)
     }
 
@@ -20,7 +19,6 @@ impl<S: Store + Drop, A: Allocator + Copy> Kernel<S, A> {
     pub fn global_flags(&self, handle: u16) -> u16
         ensures { IsAnswered S.is_honest self.now (GlobalFlags handle) (Word result) }
     {
-        self.reveal_world();
         self.parts.loading.global.global_flags(handle)
     }
 
@@ -28,7 +26,6 @@ impl<S: Store + Drop, A: Allocator + Copy> Kernel<S, A> {
     pub fn global_handle(&self, selector: u16) -> u32
         ensures { IsAnswered S.is_honest self.now (GlobalHandle selector) (Dword result) }
     {
-        self.reveal_world();
         self.parts.loading.global.global_handle(selector)
     }
 
@@ -36,7 +33,6 @@ impl<S: Store + Drop, A: Allocator + Copy> Kernel<S, A> {
     pub fn selector_base(&self, selector: u16) -> u32
         ensures { IsAnswered S.is_honest self.now (GetSelectorBase selector) (Dword result) }
     {
-        self.reveal_world();
         self.parts.loading.global.get_selector_base(selector)
     }
 
@@ -44,7 +40,6 @@ impl<S: Store + Drop, A: Allocator + Copy> Kernel<S, A> {
     pub fn selector_limit(&self, selector: u16) -> u32
         ensures { IsAnswered S.is_honest self.now (GetSelectorLimit selector) (Dword result) }
     {
-        self.reveal_world();
         self.parts.loading.global.get_selector_limit(selector)
     }
 
@@ -52,7 +47,6 @@ impl<S: Store + Drop, A: Allocator + Copy> Kernel<S, A> {
     pub fn moved(&self) -> u32
         ensures { IsAnswered S.is_honest self.now Moved (Dword result) }
     {
-        self.reveal_world();
         self.parts.loading.global.moved() as u32
     }
 }

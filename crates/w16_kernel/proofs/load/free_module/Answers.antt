@@ -1,4 +1,4 @@
-use Rattle.w16_kernel.proofs.Common.{ap, refl}
+use Rattle.w16_kernel.proofs.Common.{refl}
 use Rattle.w16_kernel.proofs.Modules.{seen}
 use Rattle.w16_kernel.proofs.load.free_module.Goals as goal
 

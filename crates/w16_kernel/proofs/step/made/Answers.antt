@@ -9,12 +9,17 @@ sweep-requires g c =
     rw (c.object_slot-slot.ensures, c.word.ensures, c.discardable_beside-before.ensures, c.object_slot.ensures)
     (others_stay _ _ is _ (told_world _ _ is _ c.in_ok-reply.reply _ c.in_ok-reply.ensures.step c.in_ok-reply.ensures.ranged).0.loading.handles _ _ c.in_ok-reply.ensures.step)
 
-pub returns-clause-step : goal.returns-clause-step
-returns-clause-step g c = rw (← c.refresh.ensures, c.sweep.ensures) (told_step _ _ (rw (← c.refresh.ensures) at c.requires.world) _ c.in_ok-reply.reply _ c.in_ok-reply.ensures.step)
-
-pub returns-clause-promises : goal.returns-clause-promises
-returns-clause-promises g c = rw (← c.refresh.ensures, c.sweep.ensures)
-    (told_promises _ _ (rw (← c.refresh.ensures) at c.requires.world) _ c.in_ok-reply.reply _ c.in_ok-reply.ensures.step c.in_ok-reply.ensures.ranged)
+pub returns-clause-made : goal.returns-clause-made
+returns-clause-made g c =
+    let is = rw (← c.refresh.ensures) at c.requires.world in
+    let step = c.in_ok-reply.ensures.step in
+    record {
+      step = rw (← c.refresh.ensures, c.sweep.ensures) (told_step _ _ is _ c.in_ok-reply.reply _ step);
+      promises = rw (← c.refresh.ensures, c.sweep.ensures) (told_promises _ _ is _ c.in_ok-reply.reply _ step c.in_ok-reply.ensures.ranged);
+      short = c.in_ok-reply.ensures.short;
+      wanted = _;
+      refused = _;
+    }
 
 pub returns-clause-world : goal.returns-clause-world
 returns-clause-world g c = rw c.sweep.ensures (told_world _ _ (rw (← c.refresh.ensures) at c.requires.world) _ c.in_ok-reply.reply _ c.in_ok-reply.ensures.step c.in_ok-reply.ensures.ranged)

@@ -1,4 +1,4 @@
-use Rattle.w16_kernel.proofs.Common.{refl, world_of, World, ◌≡◌}
+use Rattle.w16_kernel.proofs.Common.{refl, world_of}
 use Rattle.w16_kernel.proofs.Files.{kept_removed, none_had, removes}
 use Rattle.w16_kernel.proofs.Modules.{seen_world}
 use Rattle.w16_kernel.proofs.kernel.Kernel+GrowingStore+A.remove_file.Goals as goal
