@@ -26,7 +26,7 @@ pub(crate) enum Purpose {
     Resize,
 }
 
-/// A request for that many bytes, above 0 and a multiple of 4, for an entry.
+/// A request for `size` bytes, above 0 and a multiple of 4, for an entry.
 #[derive(Clone, Copy, Debug)]
 pub(crate) struct Request {
     pub id: u32,

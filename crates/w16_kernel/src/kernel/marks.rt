@@ -9,7 +9,7 @@ use w16_loader::Registry;
 use w16_loading::{FIRST_MODULE, MOST_MODULES};
 use w16_store::Store;
 
-/// The numbers up to the last module handle. Of a longer table the rest is left alone.
+/// How many handles there are up to the last module's, counted from 0. The rest of a longer table is ignored.
 pub const MODULE_HANDLES: usize = (FIRST_MODULE + MOST_MODULES) as usize;
 
 /// Whether a table marks a handle.
@@ -33,7 +33,7 @@ fn refers_to<A: Allocator>(registry: &Registry<A>, handle: u16, other: u16) -> b
     }
 }
 
-/// Whether a handle names a module that a table can tell of, and doesn't mark.
+/// Whether a module is new: a table has a byte for its handle, and doesn't mark it.
 #[tactic(auto, unfolding(crate::specs::Marks::is_new))]
 fn is_new<A: Allocator>(registry: &Registry<A>, marks: &[u8], handle: u16) -> bool
     ensures new { result ≡ meaning.is_new registry.now marks.now handle }
@@ -45,7 +45,7 @@ fn is_new<A: Allocator>(registry: &Registry<A>, marks: &[u8], handle: u16) -> bo
         && registry.module(handle).is_some()
 }
 
-/// The first new module that isn't on a way, of those that its end refers to; of all where nothing is on it.
+/// The first new module that isn't on a way yet: of those that its end refers to, or of all while nothing is on it.
 #[tactic(auto, unfolding(crate::specs::Marks::is_new))]
 fn next_on_way<A: Allocator>(
     registry: &Registry<A>,
@@ -97,7 +97,7 @@ fn is_imported<A: Allocator>(registry: &Registry<A>, marks: &[u8], handle: u16) 
     false
 }
 
-/// Whether nobody uses a module once one has a use less, and the marked ones have gone.
+/// Whether nobody uses a module once `ended` has a use less, and the marked modules have gone.
 fn is_left_idle<A: Allocator>(registry: &Registry<A>, ended: u16, marks: &[u8], handle: u16) -> bool
     ensures yes { IsTrue result → IsLeftIdle registry.now ended marks.now handle }
     ensures no { IsFalse result → IsLeftIdle registry.now ended marks.now handle → ⊥ }
@@ -110,7 +110,7 @@ fn is_left_idle<A: Allocator>(registry: &Registry<A>, ended: u16, marks: &[u8], 
         && !is_imported(registry, marks, handle)
 }
 
-/// The first such module that a table can tell of.
+/// The first such module, of those that a table has a byte for.
 fn first_left_idle<A: Allocator>(registry: &Registry<A>, ended: u16, marks: &[u8]) -> Option<u16>
     ensures next { GoesNext registry.now ended marks.now result }
     ensures inside { IfSome result (λ handle. handle < length marks.now) }
