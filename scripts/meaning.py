@@ -3,7 +3,7 @@
 
   scripts/meaning.py
 
-The definitions are those that `Step`, `Command` and `Run` of `w16_machine` lead to, down to std's. It prints how many lines of them
+The definitions are those that `Command`, and `Step` and `Run` of `w16_machine`, lead to, down to std's. It prints how many lines of them
 each page of specs/ has, without comments and imports, and the total: these lines have to be believed. It finds fault where a page of
 w16_model, w16_loading or w16_machine has other definitions beside them, where one imports a page that has none of them, and where
 scripts/meaning.txt hasn't these pages, each with the number of its definitions.
@@ -14,7 +14,7 @@ import sys
 
 TOP = pathlib.Path(__file__).resolve().parent.parent
 LIST = TOP / "scripts/meaning.txt"
-ROOTS = [("w16_machine.specs.Machine", name) for name in ("Step", "Command", "Run")]
+ROOTS = [("w16_loading.specs.Families", "Command")] + [("w16_machine.specs.Machine", name) for name in ("Step", "Run")]
 APART = ("w16_model", "w16_loading", "w16_machine")
 # How lines begin that go on with a definition.
 GOES_ON = " ])}"

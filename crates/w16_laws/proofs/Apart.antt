@@ -6,6 +6,7 @@ use proofs.Importers.{HasImporter, Idle, importer_of, idle_parts, none_idle}
 use proofs.{Given.loaded_is, Absences.all_retained, Absences.none_gone, Bound.world_used_less}
 use Rattle.w16_model.proofs.Maps.{put_same}
 use Rattle.std.specs.FinMap as finmap
+use Rattle.w16_laws.specs.Loading.{UsesApartLaw}
 
 module _ (old : C.LoadingWorld) (is : C.IsLoadingWorld old) (handle : ℕ) (m : Module) (loaded : finmap.get old.modules handle ≡ Some (Loaded m)) where
   abbrev less : C.LoadingWorld
@@ -89,7 +90,7 @@ module _ (old : C.LoadingWorld) (is : C.IsLoadingWorld old) (handle : ℕ) (m : 
       one_less : m.uses - 1 ≡ m.uses
       one_less = omega (arith, e)
 
-pub uses_apart_law : C.UsesApartLaw
+pub uses_apart_law : UsesApartLaw
 uses_apart_law old new handle answer m is at used f = record {
   answered = f.ended.answered ∙ ap (λ b. C.cond b 1 0) (ap (λ w. finmap.contains_key w.modules handle) left ∙ ap is_some here);
   less = ap (λ w. C.module_at w.modules handle) all ∙ ap C.module_in here;

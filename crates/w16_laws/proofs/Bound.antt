@@ -4,6 +4,7 @@ use Rattle.w16_loading.proofs.{Given.put_all, Given.given_handle, Bound.world_wi
 use Rattle.w16_loading.specs.Answers.{FetchesFrom, LoadsFrom, Answers, told, GivesFrom}
 use Rattle.std.specs.FinMap as finmap
 use Rattle.w16_loading.proofs.Common as C
+use Rattle.w16_laws.specs.Loading.{BoundOnceLaw}
 
 abbrev pub Same : Module → Module → Type 0
 Same m n = (n.values ≡ m.values) × (n.slots ≡ m.slots) × (n.imports ≡ m.imports)
@@ -99,7 +100,7 @@ freed old k answer new f = C.subst (λ w. Good old.modules w.modules) (sym f.aft
 
 -- Steps.
 
-pub bound_law : (honest : Type 0) → C.BoundOnceLaw honest
+pub bound_law : (honest : Type 0) → BoundOnceLaw honest
 bound_law honest format old new command reply step = family (FetchesFrom Fills answers) (LoadsFrom Fills answers) (λ slice. Unit {0}) old Bound parts (record new { failures = old.failures }) reply command (nothing_asked command) step.step
   where
     answers : Answers

@@ -1,72 +1,38 @@
 -- What calls do, and when accesses are answered.
 use Rattle.w16_model.proofs
 use proofs.Common as C
-use proofs.Common.{◌≡◌, ℕ, ◌+◌, ◌*◌, ◌-◌, ◌<◌, ◌≤◌, ◌==◌, ◌||◌, true, false, cond, nat_lt, MatchBool, Option, Some, None, Result, Ok, Err, refl, sym, ap, ◌∙◌, subst, arith, Heap, Object, object_at, is_fixed, part, Handles, Answer, Word, Dword, kind_modified, FarAnswer, far_at, Done, Fault}
-use proofs.{Heaps.get-update_same, KeptHeaps.inserted_here, KeptHeaps.taken_here, KindChanges.kind_law, Absence.answer as discard_answer, Absence.discard_is, Parts.length-repeated, Accesses.reached_fault}
+use proofs.Common.{◌≡◌, ℕ, ◌+◌, ◌*◌, ◌-◌, ◌<◌, ◌≤◌, ◌==◌, ◌||◌, true, false, cond, nat_lt, MatchBool, Option, Some, None, Ok, Err, refl, sym, ap, ◌∙◌, subst, arith, Heap, Object, object_at, is_fixed, part, Handles, Word, Dword, kind_modified, FarAnswer, far_at, Done, Fault}
+use proofs.{Heaps.get-update_same, KeptHeaps.inserted_here, KeptHeaps.taken_here, KindChanges.kind_law, Absence.answer as discard_answer, Absence.discard_is, Parts.length-repeated}
 use Rattle.std.specs.FinMap as finmap
 use Rattle.w16_model.specs.declared.Refusal.TheVariants as refusals
 use Rattle.w16_laws.specs.CallEffects.{AnsweredLaw, DiscardLaw, FreeLaw, LockLaw, ModifyLaw, UnlockLaw}
 use Rattle.w16_model.specs.declared.Kind.TheVariants.{Discardable, Moveable}
-use Rattle.w16_model.specs.{declared.Refusal.Refusal, declared.TheConstants.REACH, declared.TheConstants.GMEM_MODIFY, declared.Kind.Kind, declared.FarFault.FarFault, declared.FarFault.TheVariants.ReadOnly}
+use Rattle.w16_model.specs.{declared.TheConstants.REACH, declared.TheConstants.GMEM_MODIFY, declared.Kind.Kind, declared.FarFault.FarFault, declared.FarFault.TheVariants.ReadOnly}
+use Rattle.w16_laws.proofs.FarAccesses.{reached_fault}
 
 module _ (old : Handles) (handle slot : ℕ) (o : Object) (n : C.IsNamed old handle slot o) where
   -- GlobalLock
-  abbrev lock_of : Option Object → Result Heap Refusal
-  lock_of p = elim p as (λ _. Result Heap Refusal) [
-    | None ↦ Err refusals.Absent
-    | Some o ↦ cond (C.not (C.is_some o.bytes)) (Err refusals.Absent) (cond (is_fixed o.kind) (Err refusals.Fixed) (cond (o.locks == 255) (Err refusals.LockFull) (Ok (C.with_ordered old.heap slot (record o { locks = o.locks + 1 }) (C.touched slot)))))
-  ]
-
   abbrev locked_heap : Heap
   locked_heap = C.with_ordered old.heap slot (record o { locks = o.locks + 1 }) (C.touched slot)
 
-  abbrev lock_outcome : ℕ → Result Heap Refusal → Answer × Handles
-  lock_outcome slot r = elim r [
-    | Ok heap ↦ (Dword (C.far_pointer (C.selector_of slot) 0), record old { heap = heap })
-    | Err refusals.Fixed ↦ (Dword (C.far_pointer (C.selector_of slot) 0), old)
-    | Err _ ↦ (Dword 0, old)
-  ]
-
   locked : C.is_some o.bytes ≡ true → is_fixed o.kind ≡ false → o.locks < 255 → C.global_lock old handle ≡ (Dword (C.far_pointer (C.selector_of slot) 0), record old { heap = locked_heap })
-  locked has loose few =
-      let done : Result Heap Refusal = Ok locked_heap in
-      ap (λ (s : Option ℕ). elim s as (λ _. Answer × Handles) [ None ↦ (Dword 0, old) | Some slot ↦ lock_outcome slot (C.after_lock old.heap slot) ]) n.found
-      ∙ ap (lock_outcome slot) (ap lock_of n.there
-      ∙ ap (λ b. cond {A = Result Heap Refusal} (C.not b) (Err refusals.Absent) (cond (is_fixed o.kind) (Err refusals.Fixed) (cond (o.locks == 255) (Err refusals.LockFull) done))) has
-      ∙ ap (λ b. cond {A = Result Heap Refusal} b (Err refusals.Fixed) (cond (o.locks == 255) (Err refusals.LockFull) done)) loose
-      ∙ ap (λ b. cond {A = Result Heap Refusal} b (Err refusals.LockFull) done) (C.ne_eqb o.locks 255 (λ e. omega (arith, e, few))))
+  locked has loose few = rw (n.found, n.there, has, loose, C.ne_eqb o.locks 255 (λ e. omega (arith, e, few)), C.global_lock, C.after_lock)
 
   -- GlobalUnlock
   abbrev less : Object
   less = record o { locks = o.locks - 1 }
 
-  abbrev unlock_outcome : ℕ → Result Heap Refusal → Answer × Handles
-  unlock_outcome slot r = elim r [ Ok heap ↦ (Word (cond (nat_lt 0 (C.locks_at heap slot)) 1 0), record old { heap = heap }) | Err _ ↦ (Word 0, old) ]
-
   unlocked : is_fixed o.kind ≡ false → C.global_unlock old handle ≡ (Word (cond (nat_lt 0 (o.locks - 1)) 1 0), record old { heap = C.with_object old.heap slot less })
-  unlocked loose =
-      ap (λ (s : Option ℕ). elim s as (λ _. Answer × Handles) [ None ↦ (Word 0, old) | Some slot ↦ unlock_outcome slot (C.after_unlock old.heap slot) ]) n.found
-      ∙ ap (λ (p : Option Object). unlock_outcome slot (elim p as (λ _. Result Heap Refusal) [ None ↦ Ok old.heap | Some o ↦ cond (is_fixed o.kind) (Err refusals.Fixed) (Ok (C.with_object old.heap slot (record o { locks = o.locks - 1 }))) ])) n.there
-      ∙ ap (λ b. unlock_outcome slot (cond {A = Result Heap Refusal} b (Err refusals.Fixed) (Ok (C.with_object old.heap slot less)))) loose
-      ∙ ap (λ (p : Option Object). (Word (cond (nat_lt 0 (C.unwrap_or (C.option_map (λ (o : Object). o.locks) p) 0)) 1 0), record old { heap = C.with_object old.heap slot less })) (inserted_here old.heap.objects slot less slot refl)
+  unlocked loose = rw (n.found, n.there, loose, inserted_here old.heap.objects slot less slot refl, C.global_unlock, C.after_unlock)
 
   -- GlobalFree
-  abbrev free_outcome : ℕ → Result Heap Refusal → Answer × Handles
-  free_outcome slot r = elim r [ Ok heap ↦ (Word 0, record old { heap = heap; attributes = finmap.remove old.attributes slot }) | Err _ ↦ (Word handle, old) ]
-
   freed : C.owns old handle ≡ false → o.locks ≡ 0 → C.global_free old handle ≡ (Word 0, record old { heap = C.removed old.heap slot; attributes = finmap.remove old.attributes slot })
-  freed own free =
-      ap (λ b. cond {A = Answer × Handles} b (Word handle, old) (C.free_own old handle)) own
-      ∙ ap (λ (s : Option ℕ). elim s as (λ _. Answer × Handles) [ None ↦ (Word handle, old) | Some slot ↦ free_outcome slot (C.after_free old.heap slot) ]) n.found
-      ∙ ap (λ (p : Option Object). free_outcome slot (elim p as (λ _. Result Heap Refusal) [ None ↦ Ok old.heap | Some o ↦ cond (nat_lt 0 o.locks) (Err refusals.Locked) (Ok (C.removed old.heap slot)) ])) n.there
-      ∙ ap (λ k. free_outcome slot (cond {A = Result Heap Refusal} (nat_lt 0 k) (Err refusals.Locked) (Ok (C.removed old.heap slot)))) free
+  freed own free = rw (own, n.found, n.there, free, C.global_free, C.free_own, C.after_free)
 
   -- GlobalReAlloc
   module _ (new : Handles) (size flags answer : ℕ) (own : C.owns old handle ≡ false) (step : C.GlobalReAllocs old handle size flags answer new) where
     reallocs : MatchBool (C.has_flag flags GMEM_MODIFY) (C.AnswersHandle old handle (C.modified old.heap slot (kind_modified flags)) answer new) (MatchBool (size == 0) (C.Empties old handle slot flags answer new) (C.Resizes old slot flags size answer new))
-    reallocs = subst (λ (s : Option ℕ). C.MatchOption s (C.IsNull old answer new) (λ slot. MatchBool (C.has_flag flags GMEM_MODIFY)
-        (C.AnswersHandle old handle (C.modified old.heap slot (kind_modified flags)) answer new) (MatchBool (size == 0) (C.Empties old handle slot flags answer new) (C.Resizes old slot flags size answer new)))) n.found
-        (subst (λ b. MatchBool b (C.IsNull old answer new) (C.ReAllocsOwn old handle size flags answer new)) own step)
+    reallocs = rw (own, n.found, C.GlobalReAllocs) at step
 
 pub lock_law : LockLaw
 lock_law old new handle slot o answer n has loose few step =

@@ -1,19 +1,22 @@
 -- The laws of each call on handles, by its outcome: what stays, the bytes moved, and the order of use.
-use Rattle.w16_model.proofs.CallLaws.{contents, next_own, place_own, next_other, place_beside, followed, other}
-use Rattle.w16_model.proofs.Common.{arith, Heap, ℕ, is_some, ◌≡◌, true, Bool, List, blocks, ◌<◌, map, [], ◌∷◌, inl, refl, sym, inr, ◌∙◌, ◌+◌, ap, Option, None, false≢true, Some, not, is_member, object_at, Object, Handles, Answer, next_slot, subst, counts_moved, Word, Dword, ◌⊎◌, without}
-use Rattle.w16_model.proofs.Common.{cond, OnlyLeave, may_order, false, handle_in, ◌&&◌, newest, Ok, Result, Err, ◌==◌}
-use Rattle.w16_model.proofs.CallOrders.{stays, discards, rest_resized, compacted, resized_leaves, touched_rest, newest_rest, allocated, gone_bytes}
-use Rattle.w16_model.proofs.{CallOutcomes.outcome, CallOutcomes.none_moved, Gaps.Member, Heaps.IsBlockOf, Heaps.member_block, Heaps.block_member, Heaps.blocks_rise, Heaps.keys_rise, KeptHeaps.bytes_in, KeptHeaps.taken_here, KeptHeaps.inserted_here, Discards.is_member-true}
-use Rattle.w16_model.proofs.{Discards.true-is_member, Starts.member_map, ResizedHandles.found_some, Fewest.some_handle, KindChanges.twice_out, KeptRest.all_stay, KeptRest.at_once, KeptRest.absents_order, Runs.unused, Runs.some_slots, KeptHandles.settled, Others.others_law}
+use Rattle.w16_model.proofs as model
+use Rattle.w16_model.proofs.CallOrders as K
+use Rattle.w16_laws.specs.CallLaws as W
+use model.CallLaws.{contents, next_own, place_own, next_other, place_beside, followed, other}
+use model.Common.{arith, Heap, ℕ, is_some, ◌≡◌, true, Bool, List, blocks, ◌<◌, map, [], ◌∷◌, inl, refl, sym, inr, ◌∙◌, ◌+◌, ap, Option, None, false≢true, Some, not, is_member, object_at, Object, Handles, Answer, next_slot, subst, counts_moved, Word, Dword, ◌⊎◌, without, cond, OnlyLeave}
+use model.Common.{false, handle_in, ◌&&◌, newest, Ok, Err}
+use model.CallOrders.{stays}
+use model.{CallOutcomes.outcome, CallOutcomes.none_moved, Gaps.Member, Heaps.IsBlockOf, Heaps.member_block, Heaps.block_member, Heaps.blocks_rise, Heaps.keys_rise, KeptHeaps.bytes_in, KeptHeaps.taken_here, KeptHeaps.inserted_here, Discards.is_member-true, Discards.true-is_member}
+use model.{Starts.member_map, ResizedHandles.found_some, Fewest.some_handle, KindChanges.twice_out, KeptRest.all_stay, KeptRest.at_once, KeptRest.absents_order, Runs.unused, Runs.some_slots, KeptHandles.settled, Others.others_law}
+use Rattle.std.specs.List.{AllByRecursion as Each}
+use Rattle.w16_model.specs.declared.Kind.TheVariants.{Fixed, Moveable, Discardable}
+use Rattle.w16_model.specs.{declared.Block.Block, declared.Kind.Kind, declared.RoomOptions.RoomOptions}
+use Rattle.w16_laws.specs.CallLaws.{may_order, IsMoved, size_at, IsSumOfMoved}
 use Rattle.w16_model.proofs.Common as C
 use Rattle.std.specs.FinMap as finmap
 use Rattle.w16_model.proofs.Gaps as M
-use Rattle.std.specs.List.{AllByRecursion as Each}
-use Rattle.w16_model.specs.declared.Refusal.TheVariants as refusals
-use Rattle.w16_model.specs.declared.Kind.TheVariants.{Fixed, Moveable, Discardable}
-use Rattle.w16_model.specs.{declared.Block.Block, declared.Refusal.Refusal, declared.Kind.Kind, declared.RoomOptions.RoomOptions}
 
-pub contents_law : C.ContentsLaw
+pub contents_law : W.ContentsLaw
 contents_law old new call answer is m step = contents old new _ answer (outcome old new _ _ is step) m
 
 -- The bytes moved to a heap, from which each object of old goes on to its next slot.
@@ -40,22 +43,22 @@ module _ (old mid new : Heap) (is : C.IsHeap old) (next : ℕ → ℕ) (goes : (
   member_back (x ∷ xs) q (inl e) = (x, inl refl, sym e)
   member_back (x ∷ xs) q (inr m) = let r : (x : Block) × Member x xs × (x.id ≡ q) = member_back xs q m in (r.0, inr r.1, r.2)
 
-  sum_is : (xs : List Block) → ((x : Block) → Member x xs → x.size ≡ C.size_at old x.id) → C.sum_by (λ (x : Block). x.size) xs ≡ C.sum_by (C.size_at old) (map id_of xs)
+  sum_is : (xs : List Block) → ((x : Block) → Member x xs → x.size ≡ size_at old x.id) → C.sum_by (λ (x : Block). x.size) xs ≡ C.sum_by (size_at old) (map id_of xs)
   sum_is [] h = refl
-  sum_is (x ∷ xs) h = C.sum_by-cons (λ (x : Block). x.size) x xs ∙ (λ i. h x (inl refl) i + sum_is xs (λ y m. h y (inr m)) i) ∙ sym (C.sum_by-cons (C.size_at old) x.id (map id_of xs))
+  sum_is (x ∷ xs) h = C.sum_by-cons (λ (x : Block). x.size) x xs ∙ (λ i. h x (inl refl) i + sum_is xs (λ y m. h y (inr m)) i) ∙ sym (C.sum_by-cons (size_at old) x.id (map id_of xs))
 
-  size_is : (x : Block) → Member x moving → x.size ≡ C.size_at old x.id
+  size_is : (x : Block) → Member x moving → x.size ≡ size_at old x.id
   size_is x m =
       let b : IsBlockOf old x = member_block old x (M.member_filter moves (blocks old) x m).0 in
       b.size ∙ sym (ap (λ p. C.unwrap_or (C.option_map C.length (bytes_in p)) 0) b.is_there ∙ ap (λ p. C.unwrap_or (C.option_map C.length p) 0) b.has_bytes)
 
   -- an address that has changed
-  elsewhere : (x : Block) (q : ℕ) → x.id ≡ q → (p r : Option ℕ) → finmap.get old.places q ≡ p → finmap.get mid.places q ≡ r → x.at ≡ C.unwrap_or p 0 → is_some p ≡ true → C.is_elsewhere x.at r ≡ true → C.IsMoved old new next q
-  elsewhere x q e None r was now at some t = absurd (false≢true some)
-  elsewhere x q e (Some a) None was now at some t = absurd (false≢true t)
+  elsewhere : (x : Block) (q : ℕ) → x.id ≡ q → (p r : Option ℕ) → finmap.get old.places q ≡ p → finmap.get mid.places q ≡ r → x.at ≡ C.unwrap_or p 0 → is_some p ≡ true → C.is_elsewhere x.at r ≡ true → IsMoved old new next q
+  elsewhere x q e None r was now at some t = cc
+  elsewhere x q e (Some a) None was now at some t = cc
   elsewhere x q e (Some a) (Some b) was now at some t = (a, b, was, goes q (ap is_some was) ∙ now, (λ same. false≢true (sym (ap not (C.eq-eqb b x.at (sym same ∙ sym at))) ∙ t)))
 
-  into : (q : ℕ) → is_member q (map id_of moving) ≡ true → C.IsMoved old new next q
+  into : (q : ℕ) → is_member q (map id_of moving) ≡ true → IsMoved old new next q
   into q t =
       let r : (x : Block) × Member x moving × (x.id ≡ q) = member_back moving q (is_member-true q (map id_of moving) t) in
       let f : Member r.0 (blocks old) × C.IsTrue (moves r.0) = M.member_filter moves (blocks old) r.0 r.1 in
@@ -64,7 +67,7 @@ module _ (old mid new : Heap) (is : C.IsHeap old) (next : ℕ → ℕ) (goes : (
       (is.at_bytes q ∙ ap (λ k. is_some (bytes_in (object_at old k))) (sym r.2) ∙ ap (λ p. is_some (bytes_in p)) b.is_there ∙ ap is_some b.has_bytes)
       (ap (λ k. C.is_elsewhere r.0.at (finmap.get mid.places k)) (sym r.2) ∙ f.1)
 
-  back : (q : ℕ) → C.IsMoved old new next q → is_member q (map id_of moving) ≡ true
+  back : (q : ℕ) → IsMoved old new next q → is_member q (map id_of moving) ≡ true
   back q m = by_object (object_at old q) refl (sym (is.at_bytes q) ∙ ap is_some m.2)
     where
       listed : (o : Object) (bytes : List ℕ) → object_at old q ≡ Some o → o.bytes ≡ Some bytes → is_member q (map id_of moving) ≡ true
@@ -74,14 +77,14 @@ module _ (old mid new : Heap) (is : C.IsHeap old) (next : ℕ → ℕ) (goes : (
           true-is_member q (map id_of moving) (member_map id_of moving x (M.filter_member moves (blocks old) x (block_member old x b) (ap (C.is_elsewhere m.0) (sym (goes q (ap is_some m.2)) ∙ m.3) ∙ ap not (C.ne_eqb m.1 m.0 (λ e. m.4 (sym e))))))
 
       by_bytes : (o : Object) → object_at old q ≡ Some o → (b : Option (List ℕ)) → o.bytes ≡ b → is_some b ≡ true → is_member q (map id_of moving) ≡ true
-      by_bytes o there None has t = absurd (false≢true t)
+      by_bytes o there None has t = cc
       by_bytes o there (Some bytes) has t = listed o bytes there has
 
       by_object : (p : Option Object) → object_at old q ≡ p → is_some (bytes_in p) ≡ true → is_member q (map id_of moving) ≡ true
-      by_object None there t = absurd (false≢true t)
+      by_object None there t = cc
       by_object (Some o) there t = by_bytes o there o.bytes refl t
 
-  moved_sum : C.IsSumOfMoved old new next (C.moved_bytes old mid)
+  moved_sum : IsSumOfMoved old new next (C.moved_bytes old mid)
   moved_sum = record {
     ids = map id_of moving;
     once = M.AllPairs-from_EachPair (λ a b. a ≡ b → ⊥) (map id_of moving) (ids_differ moving (M.pairs_filter (λ (x y : Block). x.id < y.id) moves (blocks old)
@@ -92,10 +95,10 @@ module _ (old mid new : Heap) (is : C.IsHeap old) (next : ℕ → ℕ) (goes : (
 
 module _ (old new : Handles) (is : C.AreHandles old) (call : C.Call) (answer : Answer) where
   abbrev Sum : Type 0
-  Sum = C.IsSumOfMoved old.heap new.heap (next_slot old call answer new) new.moved
+  Sum = IsSumOfMoved old.heap new.heap (next_slot old call answer new) new.moved
 
   sized_again : (r : C.Resized old call answer new) → Sum
-  sized_again r = subst (C.IsSumOfMoved old.heap new.heap (next_slot old call answer new)) (sym (ap (λ (h : Handles). h.moved) r.rest)) (moved_sum old.heap r.heap new.heap is.heap (next_slot old call answer new) goes)
+  sized_again r = subst (IsSumOfMoved old.heap new.heap (next_slot old call answer new)) (sym (ap (λ (h : Handles). h.moved) r.rest)) (moved_sum old.heap r.heap new.heap is.heap (next_slot old call answer new) goes)
     where
       there_at : (q : ℕ) → is_some (finmap.get old.heap.places q) ≡ true → is_some (object_at old.heap q) ≡ true
       there_at q t = turn (object_at old.heap q) (sym (is.heap.at_bytes q) ∙ t)
@@ -112,16 +115,16 @@ module _ (old new : Handles) (is : C.AreHandles old) (call : C.Call) (answer : A
 
   module _ (stays : (q : ℕ) → next_slot old call answer new q ≡ q) where
     by_rest : new.moved ≡ C.moved_bytes old.heap new.heap → Sum
-    by_rest e = subst (C.IsSumOfMoved old.heap new.heap (next_slot old call answer new)) (sym e) (moved_sum old.heap new.heap new.heap is.heap (next_slot old call answer new) (λ q t. ap (finmap.get new.heap.places) (stays q)))
+    by_rest e = subst (IsSumOfMoved old.heap new.heap (next_slot old call answer new)) (sym e) (moved_sum old.heap new.heap new.heap is.heap (next_slot old call answer new) (λ q t. ap (finmap.get new.heap.places) (stays q)))
 
     counted : C.Outcome old call answer new → counts_moved call ≡ true → Sum
-    counted (C.IsSame s e) c = absurd (false≢true (sym s ∙ c))
+    counted (C.IsSame s e) c = cc
     counted (C.IsUnmoved s e) c = by_rest (ap (λ (h : Handles). h.moved) e ∙ sym (none_moved old.heap new.heap (ap (λ (h : Handles). h.heap.places) e)))
-    counted (C.IsLocked l) c = absurd (false≢true (sym (ap counts_moved l.asked) ∙ c))
-    counted (C.IsUnlocked u) c = absurd (false≢true (sym (ap counts_moved u.asked) ∙ c))
-    counted (C.IsFreed f) c = absurd (false≢true (sym (ap counts_moved f.asked) ∙ c))
-    counted (C.IsNewest n) c = absurd (false≢true (sym (ap counts_moved n.asked) ∙ c))
-    counted (C.IsOldest n) c = absurd (false≢true (sym (ap counts_moved n.asked) ∙ c))
+    counted (C.IsLocked l) c = cc (ap counts_moved l.asked)
+    counted (C.IsUnlocked u) c = cc (ap counts_moved u.asked)
+    counted (C.IsFreed f) c = cc (ap counts_moved f.asked)
+    counted (C.IsNewest n) c = cc (ap counts_moved n.asked)
+    counted (C.IsOldest n) c = cc (ap counts_moved n.asked)
     counted (C.IsEntered e) c = by_rest (ap (λ (h : Handles). h.moved) e.rest)
     counted (C.IsAllocated a) c = by_rest (ap (λ (h : Handles). h.moved) a.rest)
     counted (C.IsCompacted c) t = by_rest (ap (λ (h : Handles). h.moved) c.rest)
@@ -137,13 +140,13 @@ module _ (old new : Handles) (is : C.AreHandles old) (call : C.Call) (answer : A
   new_handle kind slot says zero = let both : ◌≡◌ {A = Answer} (Word (C.handle_of kind slot)) (Word 0) = sym says ∙ zero in some_handle kind slot (let e : C.handle_of kind slot ≡ 0 = cc in e)
 
   refused : C.Outcome old call answer new → counts_moved call ≡ true → answer ≡ Word 0 → new.moved ≡ 0
-  refused (C.IsSame s e) c z = absurd (false≢true (sym s ∙ c))
+  refused (C.IsSame s e) c z = cc
   refused (C.IsUnmoved s e) c z = ap (λ (h : Handles). h.moved) e
-  refused (C.IsLocked l) c z = absurd (false≢true (sym (ap counts_moved l.asked) ∙ c))
-  refused (C.IsUnlocked u) c z = absurd (false≢true (sym (ap counts_moved u.asked) ∙ c))
-  refused (C.IsFreed f) c z = absurd (false≢true (sym (ap counts_moved f.asked) ∙ c))
-  refused (C.IsNewest n) c z = absurd (false≢true (sym (ap counts_moved n.asked) ∙ c))
-  refused (C.IsOldest n) c z = absurd (false≢true (sym (ap counts_moved n.asked) ∙ c))
+  refused (C.IsLocked l) c z = cc (ap counts_moved l.asked)
+  refused (C.IsUnlocked u) c z = cc (ap counts_moved u.asked)
+  refused (C.IsFreed f) c z = cc (ap counts_moved f.asked)
+  refused (C.IsNewest n) c z = cc (ap counts_moved n.asked)
+  refused (C.IsOldest n) c z = cc (ap counts_moved n.asked)
   refused (C.IsEntered e) c z = absurd (new_handle (C.kind_asked e.flags) e.slot e.answered z)
   refused (C.IsAllocated a) c z = absurd (new_handle (C.kind_asked a.flags) a.slot a.answered z)
   refused (C.IsCompacted c) t z = let both : ◌≡◌ {A = Answer} (Dword c.longest) (Word 0) = sym c.answered ∙ z in cc
@@ -151,7 +154,7 @@ module _ (old new : Handles) (is : C.AreHandles old) (call : C.Call) (answer : A
   refused (C.IsDiscarded d) c z = absurd (never d.handle d.slot d.named.found d.answered z)
   refused (C.IsResized r) c z = absurd (new_handle r.object.kind r.first r.answered z)
 
-pub moved_law : C.MovedLaw
+pub moved_law : W.MovedLaw
 moved_law old new call answer is step =
     let o = outcome old new _ _ is step in
     record { counted = λ c. by_slot o c (followed old new _ _ is step); refused = refused old new is _ _ o; other = other old new is _ _ o }
@@ -183,33 +186,33 @@ module _ (old new : Heap) where
   freed id e = one_left id (ap (λ (h : Heap). C.bytes_at h id) e ∙ ap bytes_in (taken_here old.objects id id refl)) (ap (λ (h : Heap). h.order) e)
 
   pub resized : (id n : ℕ) (o : Object) (options : RoomOptions) → C.KeepsRest old id n o options new → OnlyLeave new (without id old.order) (without id new.order)
-  resized id n o options k = discards old new (Some id) k.count k.others (without id old.order) (without id new.order) (rest_resized old new id n o options k)
+  resized id n o options k = K.discards old new (Some id) k.count k.others (without id old.order) (without id new.order) (K.rest_resized old new id n o options k)
 
 module _ (old new : Handles) (is : C.AreHandles old) (call : C.Call) (answer : Answer) where
   unordered : C.Outcome old call answer new → may_order call ≡ false → OnlyLeave new.heap old.heap.order new.heap.order
   unordered (C.IsSame s e) m = same old.heap new.heap (ap (λ (h : Handles). h.heap.order) e)
   unordered (C.IsUnmoved s e) m = same old.heap new.heap (ap (λ (h : Handles). h.heap.order) e)
-  unordered (C.IsLocked l) m = absurd (false≢true (sym m ∙ ap may_order l.asked))
+  unordered (C.IsLocked l) m = cc (ap may_order l.asked)
   unordered (C.IsUnlocked u) m = same old.heap new.heap (ap (λ (h : Handles). h.heap.order) u.rest)
   unordered (C.IsFreed f) m = freed old.heap new.heap f.slot (ap (λ (h : Handles). h.heap) f.rest)
-  unordered (C.IsNewest n) m = absurd (false≢true (sym m ∙ ap may_order n.asked))
-  unordered (C.IsOldest n) m = absurd (false≢true (sym m ∙ ap may_order n.asked))
-  unordered (C.IsEntered e) m = absurd (false≢true (sym m ∙ ap may_order e.asked))
-  unordered (C.IsAllocated a) m = absurd (false≢true (sym m ∙ ap may_order a.asked))
-  unordered (C.IsCompacted c) m = compacted old.heap new.heap is.heap c.count c.settled
-  unordered (C.IsModified c) m = absurd (false≢true (sym m ∙ ap may_order c.asked))
-  unordered (C.IsDiscarded d) m = absurd (false≢true (sym m ∙ ap may_order d.asked))
-  unordered (C.IsResized r) m = absurd (false≢true (sym m ∙ ap may_order r.asked))
+  unordered (C.IsNewest n) m = cc (ap may_order n.asked)
+  unordered (C.IsOldest n) m = cc (ap may_order n.asked)
+  unordered (C.IsEntered e) m = cc (ap may_order e.asked)
+  unordered (C.IsAllocated a) m = cc (ap may_order a.asked)
+  unordered (C.IsCompacted c) m = K.compacted old.heap new.heap is.heap c.count c.settled
+  unordered (C.IsModified c) m = cc (ap may_order c.asked)
+  unordered (C.IsDiscarded d) m = cc (ap may_order d.asked)
+  unordered (C.IsResized r) m = cc (ap may_order r.asked)
 
   -- a call names its object
   about : (handle slot : ℕ) → handle_in call ≡ Some handle → C.slot_of_handle old handle ≡ Some slot → C.IsAbout old call slot
   about handle slot names found = subst (λ p. C.IsSomeAnd p (λ h. C.slot_of_handle old h ≡ Some slot)) (sym names) found
 
   abbrev Others : Type 0
-  Others = C.OthersStand (C.IsAbout old call) (next_slot old call answer new) old.heap new.heap
+  Others = W.OthersStand (C.IsAbout old call) (next_slot old call answer new) old.heap new.heap
 
   others_resized : C.Resized old call answer new → Others
-  others_resized r = inr (r.slot, inl (about r.handle r.slot (ap handle_in r.asked) r.named.found), subst (λ s. OnlyLeave new.heap (without r.slot old.heap.order) (without s new.heap.order)) (sym (next_own old new is call answer r)) (resized_leaves old new is call answer r))
+  others_resized r = inr (r.slot, inl (about r.handle r.slot (ap handle_in r.asked) r.named.found), subst (λ s. OnlyLeave new.heap (without r.slot old.heap.order) (without s new.heap.order)) (sym (next_own old new is call answer r)) (K.resized_leaves old new is call answer r))
 
   module _ (same_slot : (q : ℕ) → next_slot old call answer new q ≡ q) where
     left_by : (slot : ℕ) → OnlyLeave new.heap (without slot old.heap.order) (without slot new.heap.order) → OnlyLeave new.heap (without slot old.heap.order) (without (next_slot old call answer new slot) new.heap.order)
@@ -221,29 +224,29 @@ module _ (old new : Handles) (is : C.AreHandles old) (call : C.Call) (answer : A
     others : C.Outcome old call answer new → Others
     others (C.IsSame s e) = inl (same old.heap new.heap (ap (λ (h : Handles). h.heap.order) e))
     others (C.IsUnmoved s e) = inl (same old.heap new.heap (ap (λ (h : Handles). h.heap.order) e))
-    others (C.IsLocked l) = of_named l.handle l.slot (ap handle_in l.asked) l.named.found (ap (λ (h : Handles). without l.slot h.heap.order) l.rest ∙ touched_rest l.slot old.heap.order)
+    others (C.IsLocked l) = of_named l.handle l.slot (ap handle_in l.asked) l.named.found (ap (λ (h : Handles). without l.slot h.heap.order) l.rest ∙ K.touched_rest l.slot old.heap.order)
     others (C.IsUnlocked u) = inl (same old.heap new.heap (ap (λ (h : Handles). h.heap.order) u.rest))
     others (C.IsFreed f) = inl (freed old.heap new.heap f.slot (ap (λ (h : Handles). h.heap) f.rest))
-    others (C.IsNewest n) = of_named n.handle n.slot (ap handle_in n.asked) n.named.found (ap (λ (h : Handles). without n.slot h.heap.order) n.rest ∙ newest_rest n.slot old.heap.order)
+    others (C.IsNewest n) = of_named n.handle n.slot (ap handle_in n.asked) n.named.found (ap (λ (h : Handles). without n.slot h.heap.order) n.rest ∙ K.newest_rest n.slot old.heap.order)
     others (C.IsOldest n) = of_named n.handle n.slot (ap handle_in n.asked) n.named.found (ap (λ (h : Handles). without n.slot h.heap.order) n.rest ∙ oldest_rest n.slot old.heap.order)
     others (C.IsEntered e) = inl (same old.heap new.heap (ap (λ (h : Heap). h.order) e.entered.entered))
-    others (C.IsAllocated a) = inr (a.slot, inr (unused old is a.slot (C.slots_for (C.rounded_size a.size)) (some_slots (C.rounded_size a.size)) a.free), left_by a.slot (allocated old.heap new.heap is.heap a.slot a.count (C.alloc_options a.flags) a.object a.settled))
-    others (C.IsCompacted c) = inl (compacted old.heap new.heap is.heap c.count c.settled)
+    others (C.IsAllocated a) = inr (a.slot, inr (unused old is a.slot (C.slots_for (C.rounded_size a.size)) (some_slots (C.rounded_size a.size)) a.free), left_by a.slot (K.allocated old.heap new.heap is.heap a.slot a.count (C.alloc_options a.flags) a.object a.settled))
+    others (C.IsCompacted c) = inl (K.compacted old.heap new.heap is.heap c.count c.settled)
     others (C.IsModified m) = of_named m.handle m.slot (ap handle_in m.asked) m.named.found m.changes.rest
     others (C.IsDiscarded d) = of_named d.handle d.slot (ap handle_in d.asked) d.named.found (ap (λ (h : Handles). without d.slot h.heap.order) d.rest ∙ twice_out d.slot old.heap.order)
     others (C.IsResized r) = others_resized r
 
-pub unordered_law : C.UnorderedLaw
+pub unordered_law : W.UnorderedLaw
 unordered_law old new call answer is m step = unordered old new is _ answer (outcome old new _ _ is step) m
 
-pub others_order_law : C.OthersOrderLaw
+pub others_order_law : W.OthersOrderLaw
 others_order_law old new call answer is step = elim (followed old new _ _ is step) [
   | inl same_slot ↦ others old new is _ _ same_slot (outcome old new _ _ is step)
   | inr r ↦ others_resized old new is _ _ r
 ]
 
 -- A new object.
-pub new_object_law : C.NewObjectLaw
+pub new_object_law : W.NewObjectLaw
 new_object_law old new flags size handle is a listed = made (C.is_absent_asked flags size) a.made
   where
     never : (b : Bool) → (b && false) ≡ true → ⊥
@@ -259,7 +262,7 @@ new_object_law old new flags size handle is a listed = made (C.is_absent_asked f
         let ids = C.take s.0 (C.eligible (blocks old.heap) old.heap.order (Some a.slot)) in
         let here = ap (λ h. object_at h a.slot) s.2.same ∙ inserted_here (C.discarded old.heap s.0 (Some a.slot)).objects a.slot s.1 a.slot refl in (
           C.without_all ids old.heap.order,
-          record { gone = ids; without_bytes = gone_bytes old.heap new.heap (Some a.slot) s.0 ((others_law old.heap new.heap is.heap s.0).0 a.slot (C.alloc_options flags) s.1 (C.with_newest a.slot s.1) s.2); order_is = refl },
+          record { gone = ids; without_bytes = K.gone_bytes old.heap new.heap (Some a.slot) s.0 ((others_law old.heap new.heap is.heap s.0).0 a.slot (C.alloc_options flags) s.1 (C.with_newest a.slot s.1) s.2); order_is = refl },
           ap (λ h. h.order) s.2.same ∙ ap (λ b. cond {A = List ℕ} b (newest a.slot (C.discarded old.heap s.0 (Some a.slot)).order) (without a.slot (C.discarded old.heap s.0 (Some a.slot)).order)) (sym (ap C.is_in_order here) ∙ listed)
               ∙ ap (newest a.slot) (absents_order ids old.heap),
         )
@@ -273,7 +276,7 @@ module _ (old new : Handles) (is : C.AreHandles old) (handle slot : ℕ) (o : Ob
   member = is.heap.in_order slot ∙ ap C.is_in_order there ∙ listed
 
   kind_loose : (kind : Kind) → C.is_discardable kind ≡ true → C.is_fixed kind ≡ false
-  kind_loose Fixed t = absurd (false≢true t)
+  kind_loose Fixed t = cc
   kind_loose Moveable t = refl
   kind_loose Discardable t = refl
 
@@ -281,49 +284,19 @@ module _ (old new : Handles) (is : C.AreHandles old) (handle slot : ℕ) (o : Ob
   locked_heap = C.with_ordered old.heap slot (record o { locks = o.locks + 1 }) (C.touched slot)
 
   locked : o.locks < 255 → C.after_lock old.heap slot ≡ Ok locked_heap
-  locked few =
-      let done : Result Heap Refusal = Ok locked_heap in
-      ap (λ (p : Option Object). elim p as (λ _. Result Heap Refusal) [
-        | None ↦ Err refusals.Absent
-        | Some o ↦ cond (not (is_some o.bytes)) (Err refusals.Absent) (cond (C.is_fixed o.kind) (Err refusals.Fixed) (cond (o.locks == 255) (Err refusals.LockFull) (Ok (C.with_ordered old.heap slot (record o { locks = o.locks + 1 }) (C.touched slot)))))
-      ]) there
-      ∙ ap (λ b. cond {A = Result Heap Refusal} (not b) (Err refusals.Absent) (cond (C.is_fixed o.kind) (Err refusals.Fixed) (cond (o.locks == 255) (Err refusals.LockFull) done))) parts.1
-      ∙ ap (λ b. cond {A = Result Heap Refusal} b (Err refusals.Fixed) (cond (o.locks == 255) (Err refusals.LockFull) done)) (kind_loose o.kind parts.0)
-      ∙ ap (λ b. cond {A = Result Heap Refusal} b (Err refusals.LockFull) done) (C.ne_eqb o.locks 255 (λ e. omega (arith, e, few)))
-
-  abbrev lock_outcome : ℕ → Result Heap Refusal → Answer × Handles
-  lock_outcome slot r = elim r [
-    | Ok heap ↦ (Dword (C.far_pointer (C.selector_of slot) 0), record old { heap = heap })
-    | Err refusals.Fixed ↦ (Dword (C.far_pointer (C.selector_of slot) 0), old)
-    | Err _ ↦ (Dword 0, old)
-  ]
+  locked few = rw (there, parts.1, kind_loose o.kind parts.0, C.ne_eqb o.locks 255 (λ e. omega (arith, e, few)), C.after_lock)
 
   use_lock : o.locks < 255 → new ≡ (C.global_lock old handle).1 → C.IsNewestOf slot old.heap.order new.heap.order
-  use_lock few e = ap (λ (h : Handles). h.heap.order) e
-      ∙ ap (λ (s : Option ℕ). (elim s as (λ _. Answer × Handles) [ None ↦ (Dword 0, old) | Some slot ↦ lock_outcome slot (C.after_lock old.heap slot) ]).1.heap.order) found
-      ∙ ap (λ r. (lock_outcome slot r).1.heap.order) (locked few)
-      ∙ ap (λ b. cond {A = List ℕ} b (newest slot old.heap.order) old.heap.order) member
+  use_lock few e = rw (e, found, locked few, member, C.global_lock)
 
   may : C.refused_order old.heap slot ≡ None
-  may = ap (λ (p : Option Object). elim p as (λ _. Option Refusal) [
-    | None ↦ Some refusals.Absent
-    | Some o ↦ cond (not (is_some o.bytes)) (Some refusals.Absent) (cond (C.is_discardable o.kind) None (Some refusals.NotDiscardable))
-  ]) there ∙ ap (λ b. cond {A = Option Refusal} (not b) (Some refusals.Absent) (cond (C.is_discardable o.kind) None (Some refusals.NotDiscardable))) parts.1
-      ∙ ap (λ b. cond {A = Option Refusal} b None (Some refusals.NotDiscardable)) parts.0
-
-  abbrev order_outcome : Result Heap Refusal → Answer × Handles
-  order_outcome r = elim r [ Ok heap ↦ (Word handle, record old { heap = heap }) | Err _ ↦ (Word 0, old) ]
+  may = rw (there, parts.1, parts.0, C.refused_order)
 
   use_order : (order : ℕ → List ℕ → List ℕ)
       → new ≡ (C.handle_or_0 (λ heap id. elim (C.refused_order heap id) [ Some refusal ↦ Err refusal | None ↦ Ok (record heap { order = order id heap.order }) ]) old handle).1 → new.heap.order ≡ order slot old.heap.order
-  use_order order e = ap (λ (h : Handles). h.heap.order) e
-      ∙ ap (λ (s : Option ℕ). (elim s as (λ _. Answer × Handles) [
-        | None ↦ (Word 0, old)
-        | Some slot ↦ order_outcome (elim (C.refused_order old.heap slot) [ Some refusal ↦ Err refusal | None ↦ Ok (record old.heap { order = order slot old.heap.order }) ])
-      ]).1.heap.order) found
-      ∙ ap (λ (f : Option Refusal). (order_outcome (elim f [ Some refusal ↦ Err refusal | None ↦ Ok (record old.heap { order = order slot old.heap.order }) ])).1.heap.order) may
+  use_order order e = rw (e, found, may, C.handle_or_0)
 
-pub use_law : C.UseLaw
+pub use_law : W.UseLaw
 use_law old new handle slot o answer is found there listed = (
   (λ few step. use_lock old new is _ _ o found there listed few step.1),
   (λ step. use_order old new is _ slot o found there listed newest step.1),

@@ -4,6 +4,7 @@ use Rattle.w16_loading.proofs.Importers.{Idle, HasImporter, is_then_idle, idle_p
 use Rattle.w16_loading.proofs.{Absences.same_values, Undone.retained, Cascade.gone_with, Cascade.went}
 use Rattle.std.specs.FinMap as finmap
 use Rattle.w16_loading.proofs.Common as C
+use Rattle.w16_laws.specs.Loading.{OneEndLaw}
 
 -- the order in which two go doesn't matter
 pub retained_swapped : {X : Type 0} (m : C.FinMap C.nat_cmp X) (a b : ℕ → Bool)
@@ -98,7 +99,7 @@ goes_first old k idle (x ∷ xs) end go = turn (λ later. goes_first (without_mo
             ∙ swapped old x k first.idle idle.idle
             ∙ sym (ap (λ w. without_module w x) (went old k idle.idle idle.loaded) ∙ went (gone_with old k idle.idle) x first.idle (taken_other old.modules k x (λ e. d (sym e)) ∙ first.loaded))
 
-pub one_end_law : C.OneEndLaw
+pub one_end_law : OneEndLaw
 one_end_law old a b [] [] go other = go.1 ∙ sym other.1
 one_end_law old a b (x ∷ xs) [] go other = absurd (C.false≢true (sym (other.0 x) ∙ go.0))
 one_end_law old a b xs (y ∷ ys) go other =

@@ -1,13 +1,15 @@
 -- A closure has one outcome.
 use Rattle.w16_loading.proofs
 use proofs.Common as C
-use proofs.Common.{◌≡◌, ℕ, zero, suc, List, [], ◌∷◌, OrRefused, Ok, Err, IfOk, refl, sym, ap, ◌∙◌, subst, Closure, after, Bool, ClosesFrom, Found, MatchResult, Meant, ModuleFile, None, Option, Read, Reading, ReadsFile, Referent, Refused, Some, are_sound, around, cond}
+use proofs.Common.{◌≡◌, ℕ, zero, suc, List, [], ◌∷◌, OrRefused, Ok, Err, IfOk, refl, sym, ap, ◌∙◌, subst, Closure, Bool, ClosesFrom, MatchResult, ModuleFile, None, Option, Read, Reading, ReadsFile, Referent, Refused, Some, are_sound, around, cond}
 use proofs.Common.{dll, false, follow, inl}
-use proofs.Common.{inr, length, meant, nat_lt, reading, told, true, with_bound}
+use proofs.Common.{inr, length, meant, nat_lt, true, with_bound}
 use Rattle.w16_laws.proofs.Readings.{from_next, from_list}
 use Rattle.w16_loading.specs.declared.LoadRefusal.{LoadRefusal}
 use Rattle.w16_loading.specs.declared.LoadRefusal.TheVariants.{BadFile, NoRoom}
 use Rattle.std.proofs.lemmas.Bool.{le-ltb, lt-ltb}
+use Rattle.w16_laws.specs.Closing.{after, reading, followed}
+use Rattle.w16_laws.specs.Loading.{OneClosureLaw, ClosureFilesLaw}
 
 abbrev IsDone : OrRefused Closure → Type 0
 IsDone outcome = IfOk outcome (λ c. c.pending ≡ [])
@@ -28,14 +30,14 @@ module _ (says : C.Saying) (around : C.Around) where
 
   one_list : (n m : ℕ) → One n m → (closure : Closure) (p : List (ℕ × List ℕ)) → IsDone (from_list says around n closure p) → IsDone (from_list says around m closure p) → from_list says around n closure p ≡ from_list says around m closure p
   one_list n m one closure [] a b = refl
-  one_list n m one closure (x ∷ rest) a b = one_next n m one (C.followed says around (record closure { pending = rest }) x.0 x.1) a b
+  one_list n m one closure (x ∷ rest) a b = one_next n m one (followed says around (record closure { pending = rest }) x.0 x.1) a b
 
   one : (n m : ℕ) → One n m
   one zero m closure a b = sym (still m closure a)
   one (suc n) zero closure a b = still (suc n) closure b
   one (suc n) (suc m) closure a b = one_list n m (one n m) closure closure.pending a b
 
-pub one_law : C.OneClosureLaw
+pub one_law : OneClosureLaw
 one_law says around closure a b x y = sym x.1 ∙ one says around x.0 y.0 closure (subst IsDone (sym x.1) x.2) (subst IsDone (sym y.1) y.2) ∙ y.1
 
 -- Over an honest store a load finds what its files say.
@@ -57,7 +59,7 @@ module _ {honest : Type 0} (truly : honest) (format : C.Format) (before later : 
     abbrev reading_of : OrRefused ModuleFile → Reading
     reading_of said = elim said [ Err refusal ↦ Refused refusal | Ok read ↦ by_name read (meant a found read.tables.name) ]
 
-    said_so : (p : Option (List ℕ)) → C.reading format.says (record a { file = λ name. p }) found [] ≡ reading_of (C.said_by format.says p)
+    said_so : (p : Option (List ℕ)) → reading format.says (record a { file = λ name. p }) found [] ≡ reading_of (C.said_by format.says p)
     said_so None = refl
     said_so (Some bytes) = refl
 
@@ -87,7 +89,7 @@ module _ {honest : Type 0} (truly : honest) (format : C.Format) (before later : 
     reads_so (C.Meant referent) (t, says, e) = let r = named_so said t (Some referent) e (says.1 truly) in ap reading_of r.1 ∙ ap (by_name r.0) r.2
     reads_so (C.Read read) (says, none, sound, held, few) = new_so read (held.2 truly) none true true (sound truly) (lt-ltb (length found) a.free few)
 
-    reads : (r : Reading) → C.ReadsFile answers a found name r → C.reading format.says a found name ≡ r
+    reads : (r : Reading) → C.ReadsFile answers a found name r → reading format.says a found name ≡ r
     reads r h = said_so (C.file_of old.files name) ∙ reads_so r h
 
   -- so each reference leads where they say
@@ -112,5 +114,5 @@ module _ {honest : Type 0} (truly : honest) (format : C.Format) (before later : 
       follows go (Some referent) f = go (with_bound here place referent) f
       follows go None (r, h, f) = subst (λ (x : Reading). Ends (follow here place name x)) (sym (reads closure.found (dll name) r h)) (ends go (follow here place name r) f)
 
-pub files_law : (honest : Type 0) → C.ClosureFilesLaw honest
+pub files_law : (honest : Type 0) → ClosureFilesLaw honest
 files_law honest format before later old count closure outcome truly f = let c = closes truly format before later old _ _ _ f in (count, c.0, c.1)

@@ -1,7 +1,8 @@
 -- A closure ends: each new module takes one of the free handles, and each reference is followed once.
-use Rattle.w16_loading.proofs.Common.{◌≡◌, ℕ, zero, suc, ◌+◌, ◌<◌, ◌≤◌, inl, inr, ◌⊎◌, List, [], ◌∷◌, length, OrRefused, Ok, Err, IfOk, refl, sym, ap, subst, arith, length-append, Saying, Around, Closure, followed, Closes, ClosureEndsLaw}
-use Rattle.w16_laws.proofs.Readings as loads
+use Rattle.w16_loading.proofs.Common.{◌≡◌, ℕ, zero, suc, ◌+◌, ◌<◌, ◌≤◌, inl, inr, ◌⊎◌, List, [], ◌∷◌, length, OrRefused, Ok, Err, IfOk, refl, sym, ap, subst, arith, length-append, Saying, Around, Closure}
 use Rattle.w16_laws.proofs.Readings.{follow_cases}
+use Rattle.w16_laws.specs.{Closing.followed, Closing.Closes, Loading.ClosureEndsLaw}
+use Rattle.w16_laws.proofs.Readings as loads
 
 module _ (says : Saying) (around : Around) where
   -- a reference that is followed finds no module, or takes a handle

@@ -2,10 +2,10 @@
 use Rattle.w16_loading.proofs
 use proofs.Common as C
 use base.Stored.Gv.{gnil}
-use proofs.Common.{◌≡◌, ℕ, zero, suc, Bool, true, false, List, [], ◌∷◌, codes, Some, None, Ok, Err, if◌then◌else◌, slice_index, ◌==◌, refl, Saying, ModuleFile, is_named, file_of, LoadingWorld, usage_with, Loaded, Given, used_again, Says, Found, reading, begun, after, There, New, Refused}
-use proofs.Common.{Meant}
+use proofs.Common.{◌≡◌, ℕ, zero, suc, true, false, List, [], ◌∷◌, codes, Some, None, Ok, Err, if◌then◌else◌, ◌==◌, refl, Saying, ModuleFile, is_named, file_of, Loaded, Says, begun, New, Refused}
 use Rattle.w16_loading.specs.declared.LoadRefusal.{LoadRefusal}
 use Rattle.w16_loading.specs.declared.LoadRefusal.TheVariants.{BadFile, BadReference, NoFile, NoRoom}
+use Rattle.w16_laws.specs.Closing.{reading, after}
 
 -- a file without segments
 abbrev plain : List ℕ → C.Bool → List (List ℕ) → ModuleFile

@@ -2,11 +2,12 @@
 use Rattle.w16_model.proofs
 use proofs.Common as C
 use proofs.Gaps as M
-use proofs.Common.{◌≡◌, ℕ, ◌+◌, ◌-◌, ◌≤◌, Bool, true, false, cond, ◌&&◌, ◌||◌, IsTrue, List, [], ◌∷◌, filter, ◌∙◌, and_from, is_pinned, is_loose, begins_in, Misses, IsGap, is_member, is_about, loosened, is_counted}
+use proofs.Common.{◌≡◌, ℕ, ◌+◌, ◌-◌, ◌≤◌, Bool, true, false, cond, ◌&&◌, ◌||◌, IsTrue, List, [], ◌∷◌, filter, ◌∙◌, and_from, is_pinned, is_loose, begins_in, Misses, IsGap, is_member, is_about, loosened}
 use proofs.Gaps.{Member, EachPair, Each-at, Each-from, Each-from_All, All-from_Each, member_filter, filter_member}
 use proofs.Discards.{is_member-true, eligible_loose, from_take}
 use proofs.{Starts.member_map, Least.placed_filter, Longest.room_is_longest}
 use Rattle.w16_model.specs.{declared.Block.Block, declared.Hold.TheVariants.Loose}
+use Rattle.w16_laws.specs.Heaps.{is_counted, IsArrangementWithout, IsFreeWithout, IsLongestWithout, LeftOutLaw}
 
 -- what each two that pass have, said of the whole list
 pairs_of_filter : {X : Type 0} (R : X → X → Type 0) (p : X → Bool) (xs : List X) → EachPair R (filter p xs) → EachPair (λ x y. IsTrue (p x) → IsTrue (p y) → R x y) xs
@@ -66,7 +67,7 @@ module _ (lo hi : ℕ) (xs : List Block) (ids : List ℕ) (h : C.Option ℕ) (lo
   left_gap a b gap = record { some = gap.some; clear = left_clear a b gap.clear; maximal = λ c d l m clear. gap.maximal c d l m (clear_left c d clear) }
 
   -- the arrangements
-  arranged_left : (place : Block → ℕ) → C.IsArrangementWithout lo hi xs ids h place → C.IsArrangement lo hi left place
+  arranged_left : (place : Block → ℕ) → IsArrangementWithout lo hi xs ids h place → C.IsArrangement lo hi left place
   arranged_left place w = record {
     kept = λ a b gap. All-from_Each _ left (Each-from (λ x. IsTrue (is_loose x && begins_in a b x) → (a ≤ place x) × (place x + x.size ≤ b)) left (λ x m t.
         let kept : Member x xs × IsTrue (stays x) = member_filter stays xs x m in
@@ -78,7 +79,7 @@ module _ (lo hi : ℕ) (xs : List Block) (ids : List ℕ) (h : C.Option ℕ) (lo
         (λ x y f s t l m. f (and_from (is_loose x) (stays x) l s) (and_from (is_loose y) (stays y) m t)) xs (M.EachPair-from_AllPairs _ xs w.apart)));
   }
 
-  left_arranged : (place : Block → ℕ) → C.IsArrangement lo hi left place → C.IsArrangementWithout lo hi xs ids h place
+  left_arranged : (place : Block → ℕ) → C.IsArrangement lo hi left place → IsArrangementWithout lo hi xs ids h place
   left_arranged place w = record {
     kept = λ a b gap. All-from_Each _ xs (Each-from (λ x. IsTrue (is_counted ids h x) → IsTrue (begins_in a b x) → (a ≤ place x) × (place x + x.size ≤ b)) xs (λ x m t begins.
         let parts : IsTrue (is_loose x) × IsTrue (stays x) = C.and_parts (is_loose x) (stays x) t in
@@ -94,7 +95,7 @@ module _ (lo hi : ℕ) (xs : List Block) (ids : List ℕ) (h : C.Option ℕ) (lo
   }
 
   -- and their free stretches
-  free_left : (place : Block → ℕ) (a b : ℕ) → C.IsFreeWithout lo hi xs ids h place a b → C.IsFreeStretch lo hi left place a b
+  free_left : (place : Block → ℕ) (a b : ℕ) → IsFreeWithout lo hi xs ids h place a b → C.IsFreeStretch lo hi left place a b
   free_left place a b w = record {
     clear = clear_left a b w.clear;
     misses = All-from_Each _ left (Each-from (λ x. IsTrue (is_loose x) → Misses (place x) x.size a b) left (λ x m t.
@@ -102,7 +103,7 @@ module _ (lo hi : ℕ) (xs : List Block) (ids : List ℕ) (h : C.Option ℕ) (lo
         Each-at (λ x. IsTrue (is_counted ids h x) → Misses (place x) x.size a b) xs (Each-from_All _ xs w.misses) x kept.0 (and_from (is_loose x) (stays x) t kept.1)));
   }
 
-  left_free : (place : Block → ℕ) (a b : ℕ) → C.IsFreeStretch lo hi left place a b → C.IsFreeWithout lo hi xs ids h place a b
+  left_free : (place : Block → ℕ) (a b : ℕ) → C.IsFreeStretch lo hi left place a b → IsFreeWithout lo hi xs ids h place a b
   left_free place a b w = record {
     clear = left_clear a b w.clear;
     misses = All-from_Each _ xs (Each-from (λ x. IsTrue (is_counted ids h x) → Misses (place x) x.size a b) xs (λ x m t.
@@ -111,14 +112,14 @@ module _ (lo hi : ℕ) (xs : List Block) (ids : List ℕ) (h : C.Option ℕ) (lo
   }
 
   -- so the longest of them
-  longest_without : (n : ℕ) → C.IsLongestStretch lo hi left n → C.IsLongestWithout lo hi xs ids h n
+  longest_without : (n : ℕ) → C.IsLongestStretch lo hi left n → IsLongestWithout lo hi xs ids h n
   longest_without n l = record {
     none_longer = λ place a b arranged free. l.none_longer place a b (arranged_left place arranged) (free_left place a b free);
     one_as_long = λ some. let best : (place : Block → ℕ) × (a : ℕ) × (b : ℕ) × C.IsArrangement lo hi left place × C.IsFreeStretch lo hi left place a b × (b - a ≡ n) = l.one_as_long some in
         (best.0, best.1, best.2, left_arranged best.0 best.3, left_free best.0 best.1 best.2 best.4, best.5);
   }
 
-pub left_out_law : C.LeftOutLaw
+pub left_out_law : LeftOutLaw
 left_out_law lo hi xs order k h placed =
     let ids = C.take k _ in
     longest_without lo hi xs ids h

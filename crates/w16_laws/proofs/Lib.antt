@@ -1,3 +1,10 @@
+pub mod Loads
+pub mod Runs
+pub mod LocalHeaps
+pub mod Holes
+pub mod Bystanders
+pub mod FarAccesses
+pub mod OldHandles
 pub mod Longer
 pub mod Outcomes
 pub mod LeftOut

@@ -2,9 +2,9 @@
 use Rattle.w16_loading.proofs
 use proofs.Common as C
 use proofs.Given as M
-use proofs.Common.{◌≡◌, ◌≢◌, ℕ, zero, suc, ◌+◌, ◌<◌, ◌≤◌, ◌==◌, ◌&&◌, ◌||◌, not, inl, inr, ◌⊎◌, Bool, true, false, cond, List, [], ◌∷◌, length, flat_map, map, Option, Some, None, IsSomeAnd, is_some, slice_get, slice_index_or, refl, sym, ap, ◌∙◌, subst, arith, false≢true, Kind, Discardable}
-use proofs.Common.{Heap, Object, object_at, bytes_at, is_fixed, Member, Segment, Far, LoadingWorld, Module, Named, Loaded, Filling, Fills, InTurn, GivesFrom, LoadsFrom, told, Found, Given, given, segments_of, bound, named, fills, fills_from, fills_of}
-use proofs.Common.{Answer, Says, left, refusal_number, refused_with, Word, ModuleStep}
+use proofs.Common.{◌≡◌, ◌≢◌, ℕ, zero, ◌+◌, ◌<◌, ◌≤◌, ◌==◌, ◌&&◌, ◌||◌, inl, inr, ◌⊎◌, Bool, true, false, cond, List, [], ◌∷◌, map, Option, Some, None, IsSomeAnd, is_some, slice_get, refl, sym, ap, ◌∙◌, subst, arith, Discardable}
+use proofs.Common.{Heap, Object, object_at, bytes_at, is_fixed, Member, Segment, LoadingWorld, Module, Named, Loaded, Filling, Fills, LoadsFrom, told, Given, named, fills, fills_from, fills_of}
+use proofs.Common.{Answer, Says, refusal_number, refused_with, Word}
 use proofs.Answered.{HoldFiles, closure_loads, small_number}
 use proofs.Fillings.{IsLost, any_do, filled_heap, filled_object, filled_other}
 use proofs.LoadWorlds.{free_handle, handles_differ, named_new, segments_differ, sized, was_free}
@@ -12,13 +12,11 @@ use proofs.Undone.{fold_named, in_first, in_second}
 use proofs.{ClosureFacts.IsClosure, Named.named_heap}
 use Rattle.w16_laws.proofs.Preloads.{all_after}
 use Rattle.w16_model.specs.{declared.Kind.TheVariants.Fixed, declared.Kind.TheVariants.Moveable, Heap.is_discardable}
-use Rattle.w16_loading.specs.{Families.reply_of, Load.Answer.StoreFails}
+use Rattle.w16_loading.specs.{Families.reply_of, Load.Answer.StoreFails, declared.LoadRefusal.LoadRefusal, declared.TheConstants.FIRST_MODULE, declared.TheConstants.MOST_USES, declared.FetchFault.FetchFault}
 use Rattle.w16_laws.specs.{ModuleEffects.IsUsedOnce, ModuleEffects.LoadLaw}
 use Rattle.std.specs.FinMap as finmap
 use Rattle.w16_loading.specs.declared.FetchFault.TheVariants as faults
 use Rattle.w16_loading.specs.declared.LoadRefusal.TheVariants as refusals
-use Rattle.w16_loading.specs.declared.FetchFault.TheVariants.{Store, Damaged, NoRoom}
-use Rattle.w16_loading.specs.{declared.LoadRefusal.LoadRefusal, declared.TheConstants.FIRST_MODULE, declared.TheConstants.MOST_USES, declared.FetchFault.FetchFault}
 
 -- An object of some kind that isn't discardable keeps what a filling gave it.
 module _ (k : C.Kind) (firm : k ≢ Discardable) (q : ℕ) where

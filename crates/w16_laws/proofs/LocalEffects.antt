@@ -1,15 +1,15 @@
 -- What local calls do.
+use Rattle.w16_laws.specs.LocalEffects as K
 use Rattle.w16_machine.proofs
 use proofs.Common as C
 use proofs.LocalFacts as M
-use proofs.Common.{◌≡◌, ℕ, ◌+◌, ◌-◌, ◌<◌, true, false, cond, not, ◌||◌, ◌&&◌, ◌==◌, nat_lt, MatchBool, Bool, Option, Some, None, Result, Ok, Err, is_some, refl, sym, ap, ◌∙◌, subst, arith, false≢true, Refusal, Kind, Heap, Object, object_at, is_fixed, is_discardable, newest, removed}
+use proofs.Common.{◌≡◌, ℕ, ◌+◌, ◌-◌, ◌<◌, true, false, cond, not, ◌||◌, ◌&&◌, ◌==◌, nat_lt, MatchBool, Bool, Option, Some, None, Result, Ok, Err, is_some, refl, sym, ap, ◌∙◌, subst, arith, Refusal, Kind, Heap, Object, object_at, is_fixed, is_discardable, newest, removed}
 use proofs.Common.{absent, after_lock, after_free, has_flag, Word, World, LocalHeap, Acts, heap_of, Leaves, GivesUp, near_pointer}
-use Rattle.w16_laws.specs.LocalEffects.{Ends, discard_is_refused, DiscardLaw, FreeLaw, IsLocalNamed, LockLaw, ModifyLaw, RefusedLaw, UnlockLaw, is_refused}
+use Rattle.w16_laws.specs.LocalEffects.{Ends, discard_is_refused}
+use Rattle.w16_machine.specs.declared.local.TheConstants.{LMEM_MOVEABLE, LMEM_MODIFY}
 use proofs.LocalNamed.{not_fixed}
-use Rattle.w16_model.proofs.Absence.{answer as discard_answer}
 use Rattle.std.specs.FinMap as finmap
 use Rattle.w16_model.specs.declared.Refusal.TheVariants as refusals
-use Rattle.w16_machine.specs.declared.local.TheConstants.{LMEM_MOVEABLE, LMEM_MODIFY}
 
 -- What each step of a heap leaves where nothing refuses it.
 module _ (heap : Heap) (id : ℕ) (o : Object) (there : object_at heap id ≡ Some o) where
@@ -23,37 +23,19 @@ module _ (heap : Heap) (id : ℕ) (o : Object) (there : object_at heap id ≡ So
   modified kind = C.with_ordered heap id (record o { kind = kind }) (λ order. cond (is_discardable o.kind && is_discardable kind) order (C.with_newest id (record o { kind = kind }) order))
 
   lock_is : is_some o.bytes ≡ true → is_fixed o.kind ≡ false → o.locks < 255 → after_lock heap id ≡ Ok locked
-  lock_is has loose few =
-      ap (λ (p : Option Object). elim p as (λ _. Result Heap Refusal) [
-        | None ↦ Err refusals.Absent
-        | Some o ↦ cond (not (is_some o.bytes)) (Err refusals.Absent) (cond (is_fixed o.kind) (Err refusals.Fixed) (cond (o.locks == 255) (Err refusals.LockFull) (Ok (C.with_ordered heap id (record o { locks = o.locks + 1 }) (C.touched id)))))
-      ]) there
-      ∙ ap (λ b. cond {A = Result Heap Refusal} (not b) (Err refusals.Absent) (cond (is_fixed o.kind) (Err refusals.Fixed) (cond (o.locks == 255) (Err refusals.LockFull) (Ok locked)))) has
-      ∙ ap (λ b. cond {A = Result Heap Refusal} b (Err refusals.Fixed) (cond (o.locks == 255) (Err refusals.LockFull) (Ok locked))) loose
-      ∙ ap (λ b. cond {A = Result Heap Refusal} b (Err refusals.LockFull) (Ok locked)) (C.ne_eqb o.locks 255 (λ e. omega (arith, e, few)))
+  lock_is has loose few = rw (there, has, loose, C.ne_eqb o.locks 255 (λ e. omega (arith, e, few)), after_lock)
 
   unlock_is : is_fixed o.kind ≡ false → C.after_unlock heap id ≡ Ok unlocked
-  unlock_is loose =
-      ap (λ (p : Option Object). elim p as (λ _. Result Heap Refusal) [ None ↦ Ok heap | Some o ↦ cond (is_fixed o.kind) (Err refusals.Fixed) (Ok (C.with_object heap id (record o { locks = o.locks - 1 }))) ]) there
-      ∙ ap (λ b. cond {A = Result Heap Refusal} b (Err refusals.Fixed) (Ok unlocked)) loose
+  unlock_is loose = rw (there, loose, C.after_unlock)
 
   free_is : o.locks ≡ 0 → after_free heap id ≡ Ok (removed heap id)
-  free_is free =
-      ap (λ (p : Option Object). elim p as (λ _. Result Heap Refusal) [ None ↦ Ok heap | Some o ↦ cond (nat_lt 0 o.locks) (Err refusals.Locked) (Ok (removed heap id)) ]) there
-      ∙ ap (λ k. cond {A = Result Heap Refusal} (nat_lt 0 k) (Err refusals.Locked) (Ok (removed heap id))) free
+  free_is free = rw (there, free, after_free)
 
   modify_is : (kind : Kind) → is_fixed o.kind ≡ false → is_fixed kind ≡ false → C.after_modify heap id kind ≡ Ok (modified kind)
-  modify_is kind loose asked =
-      ap (λ (p : Option Object). elim p as (λ _. Result Heap Refusal) [
-        | None ↦ Err refusals.Absent
-        | Some o ↦ cond (is_fixed o.kind || is_fixed kind) (Err refusals.Fixed)
-            (Ok (C.with_ordered heap id (record o { kind = kind }) (λ order. cond (is_discardable o.kind && is_discardable kind) order (C.with_newest id (record o { kind = kind }) order))))
-      ]) there
-      ∙ ap (λ b. cond {A = Result Heap Refusal} (b || is_fixed kind) (Err refusals.Fixed) (Ok (modified kind))) loose
-      ∙ ap (λ b. cond {A = Result Heap Refusal} b (Err refusals.Fixed) (Ok (modified kind))) asked
+  modify_is kind loose asked = rw (there, loose, asked, C.after_modify)
 
   discarded_is : is_discardable o.kind ≡ true → o.locks ≡ 0 → C.after_discard heap id ≡ Ok (absent heap id)
-  discarded_is may free = C.discard_is heap id (Some o) there ∙ ap (λ k. discard_answer heap id (nat_lt 0 k) (is_discardable o.kind)) free ∙ ap (discard_answer heap id false) may
+  discarded_is may free = rw (there, free, may, C.after_discard)
 
   -- an object with bytes has a place, and a discardable one is in the order
   module _ (is : C.IsHeap heap) (has : is_some o.bytes ≡ true) where
@@ -93,7 +75,7 @@ module _ (old new : World) (name : ℕ) (n : C.LocalObject) (named : C.object_na
   given : (r : Result Heap Refusal) (heap : Heap) (value refused answer : ℕ) → r ≡ Ok heap → GivesUp old n.heap r value refused answer new → (answer ≡ value) × Acts old n.heap (λ next. next ≡ heap) new
   given r heap value refused answer e g = subst (λ r. GivesUp old n.heap r value refused answer new) e g
 
-pub lock_law : LockLaw
+pub lock_law : K.LockLaw
 lock_law old new name n o (Word answer) is m has loose few step =
     let heap = heap_of n.heap in
     let pointer = near_pointer heap _ in
@@ -108,7 +90,7 @@ lock_law old new name n o (Word answer) is m has loose few step =
     }
 lock_law old new name n o reply is m has loose few step = absurd step
 
-pub unlock_law : UnlockLaw
+pub unlock_law : K.UnlockLaw
 unlock_law old new name n o (Word answer) m loose step =
     let heap = heap_of n.heap in
     let less : Object = record o { locks = o.locks - 1 } in
@@ -121,7 +103,7 @@ unlock_law old new name n o (Word answer) m loose step =
     )
 unlock_law old new name n o reply m loose step = absurd step
 
-pub free_law : FreeLaw
+pub free_law : K.FreeLaw
 free_law old new name n o (Word answer) m free step =
     let heap = heap_of n.heap in
     let g : (answer ≡ 0) × Acts old n.heap (λ next. next ≡ removed heap n.id) new = given old new name n m.named _ _ 0 name _ (free_is _ _ o m.there free)
@@ -133,7 +115,7 @@ free_law old new name n o reply m free step = absurd step
 abbrev Reallocs : World → ℕ → ℕ → ℕ → ℕ → World → C.LocalObject → Type 0
 Reallocs old name size flags answer new o = MatchBool (has_flag flags LMEM_MODIFY) (C.ModifiesObject old name flags answer new o) (MatchBool (size == 0) (C.DiscardsObject old name flags answer new o) (C.SizesObject old size flags answer new o))
 
-pub modify_law : ModifyLaw
+pub modify_law : K.ModifyLaw
 modify_law old new name size flags n o (Word answer) m modify loose step =
     let heap = heap_of n.heap in
     let kind = C.moveable_or_discardable flags in
@@ -144,7 +126,7 @@ modify_law old new name size flags n o (Word answer) m modify loose step =
 modify_law old new name size flags n o reply m modify loose step = absurd step
 
 -- a size of 0
-discards : (old new : World) (name flags : ℕ) (n : C.LocalObject) (o : Object) (answer : ℕ) → IsLocalNamed old name n o → has_flag flags LMEM_MODIFY ≡ false → has_flag flags LMEM_MOVEABLE ≡ true → is_discardable o.kind ≡ true → o.locks ≡ 0
+discards : (old new : World) (name flags : ℕ) (n : C.LocalObject) (o : Object) (answer : ℕ) → K.IsLocalNamed old name n o → has_flag flags LMEM_MODIFY ≡ false → has_flag flags LMEM_MOVEABLE ≡ true → is_discardable o.kind ≡ true → o.locks ≡ 0
     → C.OnNamed old name 0 answer new (Reallocs old name 0 flags answer new) → Ends new n (Some (record o { bytes = None })) × (answer ≡ name)
 discards old new name flags n o answer m keeps moveable may free step =
     let heap = heap_of n.heap in
@@ -154,7 +136,7 @@ discards old new name flags n o answer m keeps moveable may free step =
     (subst (λ b. MatchBool b (GivesUp old n.heap (C.after_discard heap n.id) name 0 answer new) (C.Stays old 0 answer new)) moveable asked) in
     (acted old new name n m.named _ (λ next. object_at next n.id ≡ Some (bare o)) (C.get-update_same _ _ _ ∙ ap (C.option_map _) m.there) g.1, g.0)
 
-pub discard_law : DiscardLaw
+pub discard_law : K.DiscardLaw
 discard_law old new name command n o reply m (C.inl e) may free step = turn reply (subst (λ c. C.LocalStep old c reply new) e step)
   where
     turn : (reply : C.Reply) → C.LocalStep old (C.LocalDiscard name) reply new → Ends new n (Some (record o { bytes = None })) × (reply ≡ Word name)
@@ -176,42 +158,33 @@ lock_never : (has fixed full : Bool) (heap : Heap) → (not has || fixed || full
 lock_never false fixed full heap e = tt
 lock_never true true full heap e = tt
 lock_never true false true heap e = tt
-lock_never true false false heap e = absurd (false≢true e)
+lock_never true false false heap e = cc
 
 discard_never : (locked may : Bool) (heap : Heap) → (locked || not may) ≡ true → Never (cond locked (Err refusals.Locked) (cond may (Ok heap) (Err refusals.NotDiscardable)))
 discard_never true may heap e = tt
 discard_never false false heap e = tt
-discard_never false true heap e = absurd (false≢true e)
+discard_never false true heap e = cc
 
 one_never : (b : Bool) (refusal : Refusal) (heap : Heap) → b ≡ true → Never (cond b (Err refusal) (Ok heap))
 one_never true refusal heap e = tt
-one_never false refusal heap e = absurd (false≢true e)
+one_never false refusal heap e = cc
 
 -- each by what is there
 module _ (heap : Heap) (id : ℕ) (o : Object) (there : object_at heap id ≡ Some o) where
   no_lock : (not (is_some o.bytes) || is_fixed o.kind || o.locks == 255) ≡ true → Never (after_lock heap id)
-  no_lock r = subst (λ p. Never (elim p as (λ _. Result Heap Refusal) [
-    | None ↦ Err refusals.Absent
-    | Some o ↦ cond (not (is_some o.bytes)) (Err refusals.Absent) (cond (is_fixed o.kind) (Err refusals.Fixed) (cond (o.locks == 255) (Err refusals.LockFull) (Ok (C.with_ordered heap id (record o { locks = o.locks + 1 }) (C.touched id)))))
-  ])) (sym there) (lock_never (is_some o.bytes) (is_fixed o.kind) (o.locks == 255) (locked heap id o there) r)
+  no_lock r = rw (there, after_lock) (lock_never (is_some o.bytes) (is_fixed o.kind) (o.locks == 255) (locked heap id o there) r)
 
   no_unlock : is_fixed o.kind ≡ true → Never (C.after_unlock heap id)
-  no_unlock r = subst (λ p. Never (elim p as (λ _. Result Heap Refusal) [ None ↦ Ok heap | Some o ↦ cond (is_fixed o.kind) (Err refusals.Fixed) (Ok (C.with_object heap id (record o { locks = o.locks - 1 }))) ])) (sym there)
-      (one_never (is_fixed o.kind) refusals.Fixed (unlocked heap id o there) r)
+  no_unlock r = rw (there, C.after_unlock) (one_never (is_fixed o.kind) refusals.Fixed (unlocked heap id o there) r)
 
   no_free : nat_lt 0 o.locks ≡ true → Never (after_free heap id)
-  no_free r = subst (λ p. Never (elim p as (λ _. Result Heap Refusal) [ None ↦ Ok heap | Some o ↦ cond (nat_lt 0 o.locks) (Err refusals.Locked) (Ok (removed heap id)) ])) (sym there)
-      (one_never (nat_lt 0 o.locks) refusals.Locked (removed heap id) r)
+  no_free r = rw (there, after_free) (one_never (nat_lt 0 o.locks) refusals.Locked (removed heap id) r)
 
   no_modify : (kind : Kind) → is_fixed o.kind ≡ true → Never (C.after_modify heap id kind)
-  no_modify kind r = subst (λ p. Never (elim p as (λ _. Result Heap Refusal) [
-    | None ↦ Err refusals.Absent
-    | Some o ↦ cond (is_fixed o.kind || is_fixed kind) (Err refusals.Fixed)
-        (Ok (C.with_ordered heap id (record o { kind = kind }) (λ order. cond (is_discardable o.kind && is_discardable kind) order (C.with_newest id (record o { kind = kind }) order))))
-  ])) (sym there) (one_never (is_fixed o.kind || is_fixed kind) refusals.Fixed (modified heap id o there kind) (ap (λ b. b || is_fixed kind) r))
+  no_modify kind r = rw (there, C.after_modify) (one_never (is_fixed o.kind || is_fixed kind) refusals.Fixed (modified heap id o there kind) (ap (λ b. b || is_fixed kind) r))
 
   no_discard : discard_is_refused o ≡ true → Never (C.after_discard heap id)
-  no_discard r = subst Never (sym (C.discard_is heap id (Some o) there)) (discard_never (nat_lt 0 o.locks) (is_discardable o.kind) (absent heap id) r)
+  no_discard r = rw (there, C.after_discard) (discard_never (nat_lt 0 o.locks) (is_discardable o.kind) (absent heap id) r)
 
 module _ (old new : World) (n : C.LocalObject) (o : Object) (there : object_at (heap_of n.heap) n.id ≡ Some o) (answer : ℕ) where
   left_so : (r : Result Heap Refusal) (taken : Heap → ℕ) (refused : Refusal → ℕ) → Never r → Leaves old n.heap r taken refused answer new → new ≡ old
@@ -222,7 +195,7 @@ module _ (old new : World) (n : C.LocalObject) (o : Object) (there : object_at (
   given_so (Ok heap) taken refused never g = absurd never
   given_so (Err refusal) taken refused never g = g.1
 
-  reallocs_so : (name size flags : ℕ) → is_refused (C.LocalReAlloc name size flags) o ≡ true → Reallocs old name size flags answer new n → new ≡ old
+  reallocs_so : (name size flags : ℕ) → K.is_refused (C.LocalReAlloc name size flags) o ≡ true → Reallocs old name size flags answer new n → new ≡ old
   reallocs_so name size flags = modify (has_flag flags LMEM_MODIFY)
     where
       discard : (b : Bool) → (not b || discard_is_refused o) ≡ true → MatchBool b (GivesUp old n.heap (C.after_discard (heap_of n.heap) n.id) name 0 answer new) (C.Stays old 0 answer new) → new ≡ old
@@ -231,19 +204,19 @@ module _ (old new : World) (n : C.LocalObject) (o : Object) (there : object_at (
 
       sized : (b : Bool) → (b && (not (has_flag flags LMEM_MOVEABLE) || discard_is_refused o)) ≡ true → MatchBool b (C.DiscardsObject old name flags answer new n) (C.SizesObject old size flags answer new n) → new ≡ old
       sized true r d = discard (has_flag flags LMEM_MOVEABLE) r d
-      sized false r d = absurd (false≢true r)
+      sized false r d = cc
 
       modify : (b : Bool) → cond b (is_fixed o.kind) (size == 0 && (not (has_flag flags LMEM_MOVEABLE) || discard_is_refused o)) ≡ true
           → MatchBool b (C.ModifiesObject old name flags answer new n) (MatchBool (size == 0) (C.DiscardsObject old name flags answer new n) (C.SizesObject old size flags answer new n)) → new ≡ old
       modify true r l = left_so (C.after_modify (heap_of n.heap) n.id (C.moveable_or_discardable flags)) (λ _. name) (λ _. name) (no_modify (heap_of n.heap) n.id o there (C.moveable_or_discardable flags) r) l
       modify false r s = sized (size == 0) r s
 
-module _ (old new : World) (name : ℕ) (n : C.LocalObject) (o : Object) (m : IsLocalNamed old name n o) (answer : ℕ) where
+module _ (old new : World) (name : ℕ) (n : C.LocalObject) (o : Object) (m : K.IsLocalNamed old name n o) (answer : ℕ) where
   -- a call's own name names the object
   own : (own : ℕ) → ◌≡◌ {A = Option ℕ} (Some own) (Some name) → C.object_named old own ≡ Some n
   own other e = let same : other ≡ name = cc in ap (C.object_named old) same ∙ m.named
 
-  refused : (command : C.LocalCommand) → C.named_by command ≡ Some name → is_refused command o ≡ true → C.Answers old command answer new → new ≡ old
+  refused : (command : C.LocalCommand) → C.named_by command ≡ Some name → K.is_refused command o ≡ true → C.Answers old command answer new → new ≡ old
   refused (C.LocalLock name) e r step =
       let pointer : ℕ = near_pointer (heap_of n.heap) n.id in
       left_so old new n o m.there answer (after_lock (heap_of n.heap) n.id) (λ _. pointer) (C.lock_refused pointer) (no_lock (heap_of n.heap) n.id o m.there r)
@@ -256,9 +229,9 @@ module _ (old new : World) (name : ℕ) (n : C.LocalObject) (o : Object) (m : Is
       (on old new name n (own name e) name answer (λ o. GivesUp old o.heap (after_free (heap_of o.heap) o.id) 0 name answer new) step)
   refused (C.LocalReAlloc name size flags) e r step = reallocs_so old new n o m.there answer name size flags r (on old new name n (own name e) 0 answer (Reallocs old name size flags answer new) step)
   refused (C.LocalDiscard name) e r step = reallocs_so old new n o m.there answer name 0 LMEM_MOVEABLE r (on old new name n (own name e) 0 answer (Reallocs old name 0 LMEM_MOVEABLE answer new) step)
-  refused other e r step = absurd (false≢true r)
+  refused other e r step = cc
 
-pub refused_law : RefusedLaw
-refused_law old new (C.DS selector) C.Done name n o asked m r step = absurd (false≢true r)
+pub refused_law : K.RefusedLaw
+refused_law old new (C.DS selector) C.Done name n o asked m r step = cc
 refused_law old new command (Word answer) name n o asked m r step = refused old new _ n o m answer command asked r step
 refused_law old new command reply name n o asked m r step = absurd step

@@ -4,6 +4,7 @@ use Rattle.w16_machine.proofs.{LocalFacts.current_there, LocalOutcomes.Outcome, 
 use Rattle.std.specs.FinMap as finmap
 use Rattle.w16_machine.proofs.Common as C
 use Rattle.std.specs.List.{AllByRecursion as Each}
+use Rattle.w16_laws.specs.LocalHeaps.{IsBegun, NeverBackLaw, BeginsNone, GoneLaw}
 
 -- where there is none there is none afterwards
 module _ (old new : World) (slot : ℕ) (none : finmap.get old.heaps slot ≡ None) where
@@ -21,7 +22,7 @@ module _ (old new : World) (slot : ℕ) (none : finmap.get old.heaps slot ≡ No
     | inr d ↦ ap (λ m. finmap.get m slot) put ∙ C.inserted_other old.heaps at.slot t slot d ∙ none
   ]
 
-  called : (command : C.LocalCommand) (answer : ℕ) → Outcome old command answer new → (finmap.get new.heaps slot ≡ None) ⊎ C.IsBegun (OfLocals command) (Word answer) new slot
+  called : (command : C.LocalCommand) (answer : ℕ) → Outcome old command answer new → (finmap.get new.heaps slot ≡ None) ⊎ IsBegun (OfLocals command) (Word answer) new slot
   called command answer (inl same) = inl (ap (λ (w : World). finmap.get w.heaps slot) same ∙ none)
   called command answer (inr (inl init)) = elim (C.cases_eq slot init.begun.slot) [
     | inl e ↦ inr (record {
@@ -48,16 +49,16 @@ module _ (old new : World) (slot : ℕ) (none : finmap.get old.heaps slot ≡ No
             ∙ left_is handles.heap old.heaps slot ∙ ap (λ p. left_over p (C.bytes_at handles.heap slot)) none
       ])
 
-pub never_back_law : (honest : Type 0) → C.NeverBackLaw honest
-never_back_law honest format old new (C.OfLoading command) reply step slot none = inl (ap (λ w. finmap.get w.heaps slot) step.1 ∙ left_is new.loading.handles.heap _ slot ∙ ap (λ p. left_over p (C.bytes_at new.loading.handles.heap slot)) none)
+pub never_back_law : (honest : Type 0) → NeverBackLaw honest
 never_back_law honest format old new (OfLocals (C.DS selector)) C.Done step slot none = inl (ap (λ w. finmap.get w.heaps slot) step ∙ none)
 never_back_law honest format old new (OfLocals command) (Word answer) step slot none = called old new _ none _ _ (outcome old _ _ new step)
 never_back_law honest format old new (OfLocals command) reply step slot none = absurd step
+never_back_law honest format old new command reply step slot none = inl (ap (λ w. finmap.get w.heaps slot) step.1 ∙ left_is new.loading.handles.heap _ slot ∙ ap (λ p. left_over p (C.bytes_at new.loading.handles.heap slot)) none)
 
-pub gone_law : (honest : Type 0) → C.GoneLaw honest
+pub gone_law : (honest : Type 0) → GoneLaw honest
 gone_law honest format old new events run none_begins slot none = each old events (C.Each-from_All _ events none_begins) run none
   where
-    each : (now : World) (events : C.List C.Event) → Each C.BeginsNone events → C.Run (C.Step honest format) now events new → finmap.get now.heaps slot ≡ None → finmap.get new.heaps slot ≡ None
+    each : (now : World) (events : C.List C.Event) → Each BeginsNone events → C.Run (C.Step honest format) now events new → finmap.get now.heaps slot ≡ None → finmap.get new.heaps slot ≡ None
     each now [] begins run none = ap (λ w. finmap.get w.heaps slot) run ∙ none
     each now (event ∷ events) begins run none = elim (never_back_law honest format now _ _ _ run.0 slot none) [
       | inl still ↦ each _ events begins.1 run.1 still

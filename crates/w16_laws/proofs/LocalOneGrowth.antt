@@ -1,10 +1,11 @@
 -- A heap isn't both lengthened and kept short.
-use Rattle.w16_machine.proofs.Common.{◌≡◌, ◌≢◌, ℕ, ◌<◌, inl, inr, Bool, true, false, nat_lt, MatchBool, IsSomeAnd, Option, Some, None, sym, subst, arith, Object, Handles, object_at, has_flag, Lengthens, OneGrowthLaw, growth_flags}
+use Rattle.w16_machine.proofs.Common.{◌≡◌, ◌≢◌, ℕ, ◌<◌, inl, inr, Bool, true, false, nat_lt, MatchBool, IsSomeAnd, Option, Some, None, sym, subst, arith, Object, Handles, object_at, has_flag, Lengthens, growth_flags}
 use Rattle.w16_machine.proofs.{LocalGrown.plain_flags, LocalLengthened.resizes}
 use Rattle.w16_model.specs.declared.Kind.TheVariants.{Fixed, Moveable, Discardable}
 use Rattle.w16_model.specs.Resizes.{Anew, GetsRun, GlobalReAllocs, IsNull, LacksRun, ReAllocsOwn, ResizesObject, realloc_options}
 use Rattle.w16_model.specs.{declared.TheConstants.LARGEST_SIZE, declared.TheConstants.GMEM_MODIFY, declared.Kind.Kind, Calls.rounded_size, Handles.handle_of, Handles.slot_of_handle, Handles.slots_for, Heap.Heap, Request.Reallocates}
 use Rattle.w16_model.proofs.Growth.{one_outcome_law}
+use Rattle.w16_laws.specs.LocalHeaps.{OneGrowthLaw}
 
 some_handle : (kind : Kind) (slot : ℕ) → 0 ≢ handle_of kind slot
 some_handle Fixed slot e = omega (arith, e)

@@ -3,12 +3,13 @@ use Rattle.w16_machine.proofs
 use proofs.Common as C
 use proofs.Common.{◌≡◌, ℕ, inl, inr, Bool, true, false, cond, nat_lt, IfOk, Option, Some, None, Result, Ok, Err, refl, ap, subst, Kind, Refusal, Heap, Object, IsHeap, object_at, is_discardable, without, absent, Asked, IsNew, OnlyLeave, stays, rounded_up, local_options, ending}
 use Rattle.w16_laws.proofs.{CallLaws.same, CallLaws.resized}
+use Rattle.w16_model.specs.Reallocation.{KeepsRest}
+use Rattle.w16_model.proofs.Reallocations.{asked as request_of}
+use Rattle.w16_laws.specs.{CallLaws.OthersStand, LocalHeaps.OrderLaw}
 use proofs.LocalFacts.{current_there, local_here, heap_here}
 use proofs.LocalCurrent.{current_becomes, grown_becomes}
 use proofs.LocalOutcomes.{IsGivenUp, IsMade, IsNamedIn, IsRoomed, IsStepped}
 use proofs.{LocalNames.names_law, LocalOthers.altered_is}
-use Rattle.w16_model.specs.Reallocation.{KeepsRest}
-use Rattle.w16_model.proofs.Reallocations.{asked as request_of}
 use Rattle.w16_model.specs.declared.Refusal.TheVariants as refusals
 
 module _ (old : Heap) where
@@ -58,7 +59,7 @@ module _ (old : Heap) where
         turn None h = absurd h
         turn (Some o) h = resized old new id (rounded_up size) o (local_options flags) h
 
-pub local_order_law : C.OrderLaw
+pub local_order_law : OrderLaw
 local_order_law old new command reply at after is step c e =
     current_becomes old at c command reply new Stand (inl (same heap heap refl)) stepped roomed (grown_becomes old is at c command new Stand (λ answer next end asks is_later made. made_order end is_later answer next made)) after e step
   where
@@ -69,7 +70,7 @@ local_order_law old new command reply at after is step c e =
     is_heap = heap_here old is at (current_there old at c)
 
     Stand : Heap → Type 0
-    Stand next = C.OthersStand (C.IsNamedBy command heap) (λ id. id) heap next
+    Stand next = OthersStand (C.IsNamedBy command heap) (λ id. id) heap next
 
     named_by_call : (id : ℕ) → IsNamedIn heap command id → C.IsNamedBy command heap id
     named_by_call id n = (n.name, n.asked, (names_law heap n.name id is_heap (local_here old is at (current_there old at c)).0.grain).0.0 n.has)

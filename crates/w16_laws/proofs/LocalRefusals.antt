@@ -2,6 +2,7 @@
 use Rattle.w16_machine.proofs.Common as C
 use Rattle.w16_machine.proofs.Common.{◌≡◌, ℕ, ◌<◌, inl, inr, Bool, true, false, ◌&&◌, ◌==◌, Some, None, refl, sym, ap, ◌∙◌, arith, false≢true, Heap, IsNew, asked, World, Acts, heap_of, rounded_up, AllocatesObject, local_options}
 use Rattle.w16_machine.specs.declared.local.TheConstants.{LMEM_MOVEABLE}
+use Rattle.w16_laws.specs.LocalHeaps.{OutcomeLaw}
 
 -- what isn't asked to be without bytes was made with some, for which there was room
 module _ (old new : World) (at : C.LocalHeap) (flags size id answer : ℕ) where
@@ -26,7 +27,7 @@ module _ (old new : World) (at : C.LocalHeap) (flags size id answer : ℕ) where
       none_some : {k : ℕ} → ◌≡◌ {A = C.Option ℕ} None (Some k) → ⊥
       none_some e = cc
 
-pub outcome_law : C.OutcomeLaw
+pub outcome_law : OutcomeLaw
 outcome_law old new at flags size id answer is free made (inl (inl fixed)) = nothing size fixed.0 (with_bytes old new at flags size id answer (C.is_absent_asked flags size) (ap (λ b. (size == 0) && b) fixed.1 ∙ never (size == 0)) made).acted.allocated.some
   where
     never : (b : Bool) → (b && false) ≡ false

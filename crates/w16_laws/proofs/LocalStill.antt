@@ -1,15 +1,16 @@
 -- What local calls leave still.
 use Rattle.w16_machine.proofs
 use proofs.Common as C
-use proofs.Common.{◌≡◌, ℕ, inl, inr, Bool, true, false, cond, ◌==◌, IfOk, Option, Some, None, Ok, Err, refl, sym, ap, ◌∙◌, subst, false≢true, Heap, removed, Word, Done, World, Acts, Stays, heap_of, DS}
+use proofs.Common.{◌≡◌, ℕ, inl, inr, Bool, true, false, cond, IfOk, Option, Some, None, Ok, Err, refl, sym, ap, ◌∙◌, subst, false≢true, Heap, removed, Word, Done, World, Acts, Stays, heap_of, DS}
 use proofs.LocalOutcomes.{IsRoomed, IsStepped, grow_asks}
 use proofs.{LocalCurrent.current_becomes, LocalOthers.altered_is}
 use Rattle.std.specs.FinMap as finmap
 use Rattle.w16_model.specs.declared.Refusal.TheVariants as refusals
+use Rattle.w16_laws.specs.LocalHeaps.{only_tells, QueriesLaw, PlacesLaw}
 
 -- Calls that only tell.
 
-told : (old new : World) (command : C.LocalCommand) (answer : ℕ) → C.only_tells command ≡ true → C.Answers old command answer new → new ≡ old
+told : (old new : World) (command : C.LocalCommand) (answer : ℕ) → only_tells command ≡ true → C.Answers old command answer new → new ≡ old
 told old new (C.LocalSize name) answer tells step = step.1
 told old new (C.LocalFlags name) answer tells step = step.1
 told old new (C.LocalHandle pointer) answer tells step = step.1
@@ -24,7 +25,7 @@ told old new (C.LocalCompact size) answer tells step = in_heap _ step
     in_heap (Some at) s = for_none at _ tells s
 told old new other answer tells step = absurd (false≢true tells)
 
-pub queries_law : C.QueriesLaw
+pub queries_law : QueriesLaw
 queries_law old new (DS selector) Done tells step = absurd (false≢true tells)
 queries_law old new command (Word answer) tells step = told old new command answer tells step
 queries_law old new command reply tells step = absurd step
@@ -69,7 +70,7 @@ module _ (heap : Heap) (q pointer : ℕ) where
     roomed answer next (inr (id, named, inl up)) = subst (λ r. IfOk r Stood) up.1 (freed id)
     roomed answer next (inr (id, named, inr done)) = fewer_places next id (ap (λ (h : Heap). h.places) (C.discard_absent heap next id done))
 
-pub places_law : C.PlacesLaw
+pub places_law : PlacesLaw
 places_law old new command reply at after q pointer step c e none =
     let heap = heap_of at in
     current_becomes old at c command reply new (Stood heap q _) (same_places heap q _ heap refl) (stepped _ q _ _ none) (roomed _ q _ _ none) (λ answer after e g. absurd (false≢true (sym none ∙ grow_asks command g.may))) _ e step

@@ -5,6 +5,7 @@ use Rattle.std.specs.List.{AllByRecursion as Each}
 use proofs.Common.{◌≡◌, ℕ, ◌+◌, ◌-◌, ◌≤◌, ◌<◌, min, true, false, cond, ◌&&◌, List, [], ◌∷◌, refl, ap, ◌∙◌, subst, arith, inl, inr, is_pinned, is_loose, begins_in, first_from, loose_bytes, room_from}
 use proofs.{Gaps.Each-from, Starts.inside, Longest.sum_filter, Longest.loose_bytes-split, Removal.largest_le}
 use Rattle.w16_model.specs.declared.Block.{Block}
+use Rattle.w16_laws.specs.Heaps.{LongerLaw}
 
 -- no less room in a longer range
 first_shorter : (hi end : ℕ) (xs : List Block) (a : ℕ) → hi ≤ end → first_from is_pinned hi xs a ≡ min hi (first_from is_pinned end xs a)
@@ -38,7 +39,7 @@ from_longer hi end xs h below a = by_end _ _ (first_shorter hi end xs a h)
       ]
     ]
 
-pub longer_law : C.LongerLaw
+pub longer_law : LongerLaw
 longer_law lo hi end xs placed h =
     let below : Each (λ x. x.at < hi) xs = Each-from (λ x. x.at < hi) xs (λ x m. omega (arith, inside lo hi xs placed x m)) in
     largest_le (room_from hi xs) (room_from end xs) (C.starts _ lo xs) (from_longer hi end xs h below)

@@ -4,8 +4,9 @@ use proofs.Common as C
 use proofs.Common.{◌≡◌, ◌≢◌, ℕ, ◌/◌, inl, inr, true, false, cond, if◌then◌else◌, ◌&&◌, ◌==◌, [], ◌∷◌, ◌++◌, map, Some, refl, sym, ap, ◌∙◌, without_all, Handles, Word}
 use proofs.ResizedHandles.{answered, moves}
 use proofs.{CallLaws.rest_of, CallOrders.gone_bare, CallOrders.gone_for, KeptHeaps.inserted_here, KeptRest.no_more, Naming.slot_in_handle}
-use Rattle.w16_model.specs.{declared.Attributes.Attributes, Calls.is_shared, CallLaws.ExtendedLaw, CallLaws.PlaceLaw, CallLaws.SharedLaw}
+use Rattle.w16_model.specs.{declared.Attributes.Attributes, Calls.is_shared}
 use Rattle.std.specs.FinMap as finmap
+use Rattle.w16_laws.specs.CallLaws.{ExtendedLaw, PlaceLaw, SharedLaw}
 
 module _ (old new : Handles) (handle size flags answer slot : ℕ) (is : C.AreHandles old) (found : C.slot_of_handle old handle ≡ Some slot) (r : C.Resized old (C.ReAllocs handle size flags) (Word answer) new) where
   named : r.handle ≡ handle

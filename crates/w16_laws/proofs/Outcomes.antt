@@ -3,6 +3,7 @@ use Rattle.w16_model.proofs.Common.{arith, ℕ, Heap, Bool, rounded_size, alloc_
 use Rattle.w16_model.proofs.{Runs.unused, Runs.some_slots, Prefixes.none_about}
 use Rattle.w16_model.proofs.Common as C
 use Rattle.w16_model.specs.{declared.RoomOptions.RoomOptions, declared.TheConstants.GMEM_MOVEABLE}
+use Rattle.w16_laws.specs.Heaps.{OutcomeLaw}
 
 -- what an answered allocation has made
 abbrev Made : C.Handles → ℕ → ℕ → ℕ → Heap → Bool → Type 0
@@ -23,7 +24,7 @@ module _ (old : C.Handles) (is : C.AreHandles old) (flags size : ℕ) where
   nothing_rounded : size ≡ 0 → rounded_size size ≡ 0
   nothing_rounded none = ap rounded_size none
 
-pub outcome_law : C.OutcomeLaw
+pub outcome_law : OutcomeLaw
 outcome_law old new flags size handle is answers refused = elim refused [
   | inl fixed ↦ made_fixed fixed
   | inr others ↦ elim others [

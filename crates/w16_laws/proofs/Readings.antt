@@ -1,9 +1,9 @@
 -- What a load reads and follows, by cases.
-use Rattle.w16_loading.proofs.Common.{◌≡◌, ℕ, ◌<◌, Bool, true, false, cond, nat_lt, List, [], ◌∷◌, length, Option, Some, None, Ok, Err, refl, ltb-true, Saying, OrRefused, by_reference, ModuleFile, Around, Closure, Found, Reading, Referent, reading, meant, are_sound}
-use Rattle.w16_loading.proofs.Common.{followed, after, dll, with_bound}
-use Rattle.w16_loading.proofs.Common.{with_found, Refused, Meant, Read, New}
+use Rattle.w16_loading.proofs.Common.{◌≡◌, ℕ, ◌<◌, Bool, true, false, cond, nat_lt, List, [], ◌∷◌, length, Option, Some, None, Ok, Err, refl, ltb-true, Saying, OrRefused, by_reference, ModuleFile, Around, Closure, Found, Reading, Referent, meant, are_sound, dll, with_bound, with_found}
+use Rattle.w16_loading.proofs.Common.{Refused, Meant, Read, New}
 use Rattle.w16_loading.specs.declared.LoadRefusal.{LoadRefusal}
 use Rattle.w16_loading.specs.declared.LoadRefusal.TheVariants.{BadFile, NoFile, NoRoom}
+use Rattle.w16_laws.specs.Closing.{reading, followed, after}
 
 module _ (says : Saying) (a : Around) where
   -- what a load makes of a file: it is refused, or means what is there, or is read while a handle is free

@@ -5,6 +5,7 @@ use Rattle.w16_loading.proofs.Common as C
 use Rattle.std.specs.FinMap as finmap
 use Rattle.w16_loading.specs.declared.FetchFault.TheVariants as faults
 use Rattle.w16_loading.specs.declared.{FetchFault.FetchFault, TheConstants.FIRST_MODULE, TheConstants.MOST_MODULES, TheConstants.MOST_USES}
+use Rattle.w16_laws.specs.Loading.{EarlyRefusalLaw, RefusedLoadLaw}
 
 -- what a refusal leaves
 abbrev Leaves : LoadingWorld → LoadingWorld → Type 0
@@ -61,7 +62,7 @@ module _ (old : LoadingWorld) (is : C.IsLoadingWorld old) where
   used : (handle : ℕ) (m : C.Module) → finmap.get old.modules handle ≡ Some (C.Loaded m) → m.uses < MOST_USES → Refused (Says handle) (C.after_use old handle m)
   used handle m e few refusal = absurd (not_refused old is handle (C.Loaded m) e refusal)
 
-pub refused_load_law : (honest : Type 0) → C.RefusedLoadLaw honest
+pub refused_load_law : (honest : Type 0) → RefusedLoadLaw honest
 refused_load_law honest format before after b old new file answer is =
     let answers = C.told honest format _ before after in
     loaded_by answers old (Refused old is) (same old is) b file _ new (used old is) (λ closure facts. fulfilled answers old is _ _ new)
@@ -107,7 +108,7 @@ module _ (old : LoadingWorld) where
           by faults.Store e out = cc
           by faults.Damaged e out = absurd (C.false≢true (sym out))
 
-pub early_refusal_law : (honest : Type 0) → C.EarlyRefusalLaw honest
+pub early_refusal_law : (honest : Type 0) → EarlyRefusalLaw honest
 early_refusal_law honest format before after b old new file number truly is f some few =
     let answers = C.told _ format _ _ _ in
     loaded_by answers old (Early old) (λ answer n e x y. refl) b file (Says _) new

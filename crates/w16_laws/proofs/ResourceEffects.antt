@@ -183,21 +183,7 @@ module _ (h : Handles) (slot : ℕ) (o : Object) (there : object_at h.heap slot 
   lock_if b c d = cond (C.not b) (Err refusals.Absent) (cond c (Err refusals.Fixed) (cond d (Err refusals.LockFull) (Ok counted)))
 
   is_locked : (handle : ℕ) → slot_of_handle h handle ≡ Some slot → C.global_lock h handle ≡ outcome (lock_if true (is_fixed o.kind) (o.locks == 255))
-  is_locked handle found =
-      ap (λ (p : Option ℕ). elim p as (λ _. calls.Answer × Handles) [
-        | None ↦ (calls.Answer.Dword 0, h)
-        | Some s ↦ elim (after_lock h.heap s) [
-          | Ok heap ↦ (calls.Answer.Dword (far_pointer (selector_of s) 0), record h { heap = heap })
-          | Err refusals.Fixed ↦ (calls.Answer.Dword (far_pointer (selector_of s) 0), h)
-          | Err _ ↦ (calls.Answer.Dword 0, h)
-        ]
-      ]) found
-      ∙ ap outcome (ap (λ (p : Option Object). elim p as (λ _. Result Heap Refusal) [
-        | None ↦ Err refusals.Absent
-        | Some x ↦ cond (C.not (is_some x.bytes)) (Err refusals.Absent)
-            (cond (is_fixed x.kind) (Err refusals.Fixed) (cond (x.locks == 255) (Err refusals.LockFull) (Ok (C.with_ordered h.heap slot (record x { locks = x.locks + 1 }) (touched slot)))))
-      ]) there
-      ∙ ap (λ b. lock_if b (is_fixed o.kind) (o.locks == 255)) bytes)
+  is_locked handle found = rw (found, there, bytes, C.global_lock, after_lock)
 
 some_pointer : (slot : ℕ) → far_pointer (selector_of slot) 0 ≡ 0 → ⊥
 some_pointer slot e = omega (arith, e)

@@ -2,7 +2,8 @@
 -- exist. Their bindings are worked out.
 use Rattle.w16_loading.proofs.Common as C
 use base.Stored.Gv.{gnil}
-use Rattle.w16_loading.proofs.Common.{◌≡◌, ℕ, ◌+◌, ◌/◌, ◌%◌, ◌==◌, Bool, true, false, if◌then◌else◌, List, [], ◌∷◌, ◌++◌, replicate, codes, slice_index_or, Some, None, Ok, refl, is_named, Far, ModuleFile, Module, Lookup, address_at, Loaded, begun, after, New, bound_in}
+use Rattle.w16_loading.proofs.Common.{◌≡◌, ℕ, ◌+◌, ◌/◌, ◌%◌, ◌==◌, Bool, true, false, if◌then◌else◌, List, [], ◌∷◌, ◌++◌, replicate, codes, slice_index_or, Some, None, Ok, refl, is_named, Far, ModuleFile, Module, Lookup, address_at, Loaded, begun, New, bound_in}
+use Rattle.w16_laws.specs.Closing.{after}
 
 -- the bytes of a word, of a far pointer, and of the first, second and third value of a segment
 abbrev word : ℕ → List ℕ

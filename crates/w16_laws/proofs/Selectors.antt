@@ -1,10 +1,11 @@
 -- What the selectors of an object say, by their number.
 use Rattle.w16_model.proofs.Common.{◌≡◌, ℕ, ◌+◌, ◌-◌, ◌*◌, ◌/◌, ◌<◌, cond, min, length, Option, Some, None, option_map, unwrap_or, sym, ap, ◌∙◌, arith, eq-eqb, Object, object_at, Handles, AreHandles, slots_at, owner_of, handle_of, selector_of, bytes_at, Dword}
-use Rattle.w16_model.proofs.{KeptHeaps.bytes_in, Runs.is_owner}
+use Rattle.w16_model.proofs.{KeptHeaps.bytes_in, Runs.is_owner, Runs.owner_is}
 use Rattle.w16_model.specs.Handles.{Gives, Part, dword_of, part_of_selector, reached}
-use Rattle.w16_model.specs.{Calls.global_handle, Calls.selector_base, Calls.selector_limit, Law.SelectorsLaw}
+use Rattle.w16_model.specs.{Calls.global_handle, Calls.selector_base, Calls.selector_limit}
 use Rattle.std.specs.FinMap as finmap
 use Rattle.w16_model.specs.declared.TheConstants.{REACH}
+use Rattle.w16_laws.specs.Heaps.{OwnerLaw, SelectorsLaw}
 
 module _ (old : Handles) (is : AreHandles old) (slot k : ℕ) (below : k < slots_at old.attributes slot) where
   -- its number is back in it
@@ -47,3 +48,7 @@ selectors_law old new slot k answer o is there below = (
   λ bytes has step. told _ _ old new step ∙ limit old is slot k below o there ∙ ap (λ p. unwrap_or (option_map (λ bytes. min 65536 (length {A = ℕ} bytes - 65536 * k) - 1) p) 0) has,
   λ none step. told _ _ old new step ∙ limit old is slot k below o there ∙ ap (λ p. unwrap_or (option_map (λ bytes. min 65536 (length {A = ℕ} bytes - 65536 * k) - 1) p) 0) none,
 )
+
+-- the owner of a slot is the object in whose run it is, and there is no other
+pub owner_law : OwnerLaw
+owner_law handles slot first is = (owner_is _ slot first, is_owner _ _ is.runs slot first)

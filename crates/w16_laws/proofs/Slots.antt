@@ -6,6 +6,7 @@ use proofs.Common.{segments_in}
 use proofs.Given.{first_apart}
 use Rattle.std.specs.List.{AllByRecursion as Each}
 use Rattle.w16_model.specs.Handles.{owner_of}
+use Rattle.w16_laws.specs.Loading.{SlotsLaw}
 
 -- Numbers of which no two are equal, all of them in a list, are no more than that has.
 
@@ -87,7 +88,7 @@ first_each : (P : ℕ → Type 0) (s more : List ℕ) → Each P (s ++ more) →
 first_each P [] more h = tt
 first_each P (x ∷ s) more h = (h.0, first_each P s _ h.1)
 
-pub slots_law : C.SlotsLaw
+pub slots_law : SlotsLaw
 slots_law world found = (λ le. chosen le, λ s. enough s.0 s.1)
   where
     enough : (slots : List (List ℕ)) → C.AreSlots world found slots → segments_in found ≤ length (free_slots world.handles)

@@ -16,7 +16,7 @@ abbrev pub LockLaw : Type 0
 LockLaw = (old new : Handles) (handle slot : ℕ) (o : Object) (answer : Answer) → IsNamed old handle slot o → is_some o.bytes ≡ true → is_fixed o.kind ≡ false → o.locks < 255
     → HandleStep old (GlobalLock handle) answer new → (object_at new.heap slot ≡ Some (record o { locks = o.locks + 1 })) × (answer ≡ Dword (far_pointer (selector_of slot) 0))
 
--- an unlock takes one lock, and tells whether any are left
+-- an unlock takes one lock, and says whether any are left
 abbrev pub UnlockLaw : Type 0
 UnlockLaw = (old new : Handles) (handle slot : ℕ) (o : Object) (answer : Answer) → IsNamed old handle slot o → is_fixed o.kind ≡ false
     → HandleStep old (GlobalUnlock handle) answer new → (object_at new.heap slot ≡ Some (record o { locks = o.locks - 1 })) × (answer ≡ Word (if nat_lt 0 (o.locks - 1) then 1 else 0))

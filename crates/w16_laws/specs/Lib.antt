@@ -1,3 +1,9 @@
+pub mod Heaps
+pub mod CallLaws
 pub mod CallEffects
 pub mod ModuleEffects
 pub mod LocalEffects
+pub mod Closing
+pub mod Loading
+pub mod LocalHeaps
+pub mod Runs

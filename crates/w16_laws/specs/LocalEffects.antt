@@ -5,8 +5,9 @@ use Rattle.w16_model.specs.{Heap.Object, Heap.object_at, Heap.is_fixed, Heap.is_
 use Rattle.w16_loading.specs.{Replies.Reply, Replies.Reply.Word}
 use specs.declared.local.TheConstants.{LMEM_MOVEABLE, LMEM_MODIFY}
 use specs.Local.{LocalObject, heap_of, object_named}
-use specs.LocalCalls.{LocalCommand, LocalStep, moveable_or_discardable}
-use specs.LocalCalls.LocalCommand.{LocalReAlloc, LocalDiscard, LocalFree, LocalLock, LocalUnlock}
+use specs.LocalCalls.{LocalStep, moveable_or_discardable}
+use Rattle.w16_loading.specs.Families.{LocalCommand}
+use Rattle.w16_loading.specs.Families.LocalCommand.{LocalReAlloc, LocalDiscard, LocalFree, LocalLock, LocalUnlock}
 use specs.{World.World, LocalLaw.named_by, LocalFewest.Left, Law.AreLocalHeaps}
 use Rattle.std.specs.FinMap as finmap
 
@@ -30,7 +31,7 @@ abbrev pub LockLaw : Type 0
 LockLaw = (old new : World) (name : ℕ) (n : LocalObject) (o : Object) (reply : Reply) → AreLocalHeaps old → IsLocalNamed old name n o → is_some o.bytes ≡ true → is_fixed o.kind ≡ false → o.locks < 255
     → LocalStep old (LocalLock name) reply new → IsLocked n o reply new
 
--- LocalUnlock takes one lock of an object that isn't fixed, and tells whether any are left
+-- LocalUnlock takes one lock of an object that isn't fixed, and says whether any are left
 abbrev pub UnlockLaw : Type 0
 UnlockLaw = (old new : World) (name : ℕ) (n : LocalObject) (o : Object) (reply : Reply) → IsLocalNamed old name n o → is_fixed o.kind ≡ false
     → LocalStep old (LocalUnlock name) reply new → Ends new n (Some (record o { locks = o.locks - 1 })) × (reply ≡ Word (if nat_lt 0 (o.locks - 1) then 1 else 0))

@@ -7,7 +7,7 @@ use specs.File.{Format, Label, Resource, Segment, is_label}
 use specs.Modules.{Load, LoadingWorld, Module, Named, module_at, name_of}
 use specs.Modules.Named.{BuiltIn, Loaded}
 use specs.Replies.Reply.{Dword, Word}
-use specs.Families.LoadingCommand.{OfModules, OfResources}
+use specs.Families.Command.{OfModules, OfResources}
 use specs.Families.ModuleCommand.{Builtin, GetModuleHandle, LoadLibrary, LoadModule}
 use specs.Families.ResourceCommand.{FindResource, FreeResource, LoadResource, LockResource, SizeofResource}
 use specs.{declared.TheConstants.FIRST_MODULE, Families.ModuleCommand, Answers.StepOver, Law.IsLoadingWorld}

@@ -1,37 +1,9 @@
 //! The laws of `w16_loading`. Each function does nothing: its contract is the law.
+ghost use Rattle.w16_laws.specs.Loading.{AreFigures, BoundAlikeLaw, BoundOnceLaw, CallsKeepWorldsLaw, ClosureEndsLaw, ClosureFilesLaw, EarlyRefusalLaw, FetchAgainLaw, FetchFaultsLaw, FetchLaw, FetchRefusedLaw, FillsLaw, OneClosureLaw, OneEndLaw, RefusedLoadLaw, SlotsLaw, UsesApartLaw};
 ghost use Rattle.w16_laws.specs.ModuleEffects.{BuiltInLaw, FindLaw, FreeLaw, LoadLaw, LoadResourceLaw, LockResourceLaw, NamedLaw, SizeofLaw};
 ghost use Rattle.w16_loading.specs.Bystanders.{StepBystandersLaw, StepPinnedLaw};
 ghost use Rattle.w16_loading.specs.Fewest.{RequestsFewestLaw};
-ghost use Rattle.w16_loading.specs.Law.{
-  AnyStepLaw,
-  AreFigures,
-  BoundAlikeLaw,
-  BoundOnceLaw,
-  CallsKeepWorldsLaw,
-  ClosureEndsLaw,
-  ClosureFilesLaw,
-  CodeLaw,
-  CodeReadsLaw,
-  EarlyRefusalLaw,
-  EmptyLaw,
-  EmptyOfFilesLaw,
-  FetchAgainLaw,
-  FetchFaultsLaw,
-  FetchLaw,
-  FetchRefusedLaw,
-  FillLaw,
-  FillsLaw,
-  KeepsWorldsLaw,
-  OneClosureLaw,
-  OneEndLaw,
-  OwnersLaw,
-  RefusedLoadLaw,
-  SlotsLaw,
-  TakenBackLaw,
-  UndoneLaw,
-  UsesApartLaw,
-  ValuesLaw,
-};
+ghost use Rattle.w16_loading.specs.Law.{AnyStepLaw, CodeLaw, CodeReadsLaw, EmptyLaw, EmptyOfFilesLaw, FillLaw, KeepsWorldsLaw, OwnersLaw, TakenBackLaw, UndoneLaw, ValuesLaw};
 ghost use Rattle.w16_loading.specs.Owner.{OwnerLaw};
 
 use w16_store::Store;

@@ -1,5 +1,6 @@
 //! The laws of local heaps. Each function does nothing: its contract is the law.
-ghost use Rattle.w16_machine.specs.LocalLaw.{AreFigures, AreFlags, BeginLaw, FarLaw, FrameLaw, GoesLaw, GoneLaw, GrowthLaw, NamedLaw, NamesLaw, NeverBackLaw, NewHeapLaw, OneGrowthLaw, OrderLaw, OthersLaw, OutcomeLaw, PinnedLaw, PlacesLaw, QueriesLaw};
+ghost use Rattle.w16_laws.specs.LocalHeaps.{AreFigures, AreFlags, FarLaw, GoneLaw, GrowthLaw, NamedLaw, NeverBackLaw, OneGrowthLaw, OrderLaw, OutcomeLaw, PlacesLaw, QueriesLaw};
+ghost use Rattle.w16_machine.specs.LocalLaw.{BeginLaw, FrameLaw, GoesLaw, NamesLaw, NewHeapLaw, OthersLaw, PinnedLaw};
 ghost use Rattle.w16_machine.specs.LocalFewest.{AllocLaw, CompactLaw, ReallocLaw};
 ghost use Rattle.w16_laws.specs.LocalEffects.{DiscardLaw, FreeLaw, LockLaw, ModifyLaw, RefusedLaw, UnlockLaw};
 ghost use Rattle.w16_machine.specs.LocalStays.{HeapsLaw, LocalSamePlacesLaw, SamePlacesLaw};

@@ -1,6 +1,7 @@
 //! The laws of steps and runs of the whole machine. Each function does nothing: its contract is the law.
-ghost use Rattle.w16_machine.specs.Bystanders.{RunSparesLaw, StepSparesLaw};
-ghost use Rattle.w16_machine.specs.{Fewest.FewestLaw, Law.ApartLaw, Law.EmptyLaw, Law.FilesLaw, Law.RunFilesLaw, Law.RunWorldLaw, Law.WorldLaw};
+ghost use Rattle.w16_laws.specs.Runs.{RunSparesLaw, FewestLaw, RunFilesLaw, RunWorldLaw};
+ghost use Rattle.w16_machine.specs.Bystanders.{StepSparesLaw};
+ghost use Rattle.w16_machine.specs.{Law.ApartLaw, Law.EmptyLaw, Law.FilesLaw, Law.WorldLaw};
 
 use w16_store::Store;
 

@@ -1,39 +1,13 @@
 //! The laws of `w16_model`. Each function does nothing: its contract is the law.
-ghost use Rattle.w16_model.specs.Law.{
-  AreFigures,
-  AreFlags,
-  AddressLaw,
-  AnswerLaw,
-  OutcomeLaw,
-  GapListLaw,
-  RisingLaw,
-  LongestHoleLaw,
-  HoleAfterLaw,
-  PinnedLaw,
-  LargestLaw,
-  RoomLaw,
-  LongerLaw,
-  LeastLaw,
-  MoreDiscardsLaw,
-  DiscardedLaw,
-  OthersLaw,
-  WalkLaw,
-  SoundLaw,
-  RangeLaw,
-  NamesLaw,
-  OwnerLaw,
-  ReachLaw,
-  SelectorsLaw,
-  EmptyLaw,
-  HandleLaw,
-  FarLaw,
-};
+ghost use Rattle.w16_model.specs.Law.{AddressLaw, AnswerLaw, GapListLaw, PinnedLaw, RoomLaw, LeastLaw, MoreDiscardsLaw, OthersLaw, WalkLaw, SoundLaw, RangeLaw, NamesLaw, ReachLaw, EmptyLaw, HandleLaw};
 ghost use Rattle.w16_model.specs.Fewest.{AllocationLaw, CompactionLaw, GlobalAllocLaw, GlobalCompactLaw};
-ghost use Rattle.w16_model.specs.Reallocation.{HeapLaw, KindHeapLaw, DiscardHeapLaw, RestLaw, FewestLaw, MovesLaw, OneOutcomeLaw, KindLaw, LeftOutLaw};
-ghost use Rattle.w16_model.specs.CallLaws.{ContentsLaw, SlotsLaw, MovedLaw, BystandersLaw, AttributesLaw, PinnedStayLaw, StillLaw, UseLaw, NewObjectLaw, UnorderedLaw, OthersOrderLaw, FarEffectLaw, ReadBackLaw, ResizeLaw, NullLaw, ResizeFewestLaw, OneSlotLaw};
+ghost use Rattle.w16_model.specs.Reallocation.{HeapLaw, KindHeapLaw, DiscardHeapLaw, RestLaw, FewestLaw, MovesLaw, OneOutcomeLaw, KindLaw};
+ghost use Rattle.w16_model.specs.CallLaws.{SlotsLaw, BystandersLaw, PinnedStayLaw, FarEffectLaw, ResizeLaw, ResizeFewestLaw, OneSlotLaw};
+ghost use Rattle.w16_laws.specs.Heaps.{AreFigures, AreFlags, OutcomeLaw, RisingLaw, LongestHoleLaw, HoleAfterLaw, LargestLaw, LongerLaw, DiscardedLaw, OwnerLaw, SelectorsLaw, FarLaw, LeftOutLaw};
+ghost use Rattle.w16_laws.specs.CallLaws.{ContentsLaw, MovedLaw, AttributesLaw, StillLaw, UseLaw, NewObjectLaw, UnorderedLaw, OthersOrderLaw, ReadBackLaw, NullLaw, ExtendedLaw, OldHandleLaw, PlaceLaw, SharedLaw};
 ghost use Rattle.w16_laws.specs.CallEffects.{LockLaw, UnlockLaw, FreeLaw, ModifyLaw, DiscardLaw, AnsweredLaw};
 ghost use Rattle.w16_model.specs.Outcomes.{CallOutcomesLaw};
-ghost use Rattle.w16_model.specs.CallLaws.{ExtendedLaw, OldHandleLaw, PlaceLaw, SharedLaw, SizeLaw};
+ghost use Rattle.w16_model.specs.CallLaws.{SizeLaw};
 
 /// The figures of the profile and the flags of the manual are these numbers. Definitions and code share the constants, so only this law
 /// would see a wrong one.

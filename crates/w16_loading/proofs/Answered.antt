@@ -36,7 +36,7 @@ module _ (F G : C.Fetching) (L M : C.Loading) (old new : LoadingWorld) (reply : 
         by_load r at None e (inr f) = inr (record { slot = f.slot; free = f.free; fault = f.fault; next = f.next; fetched = made handle place f.slot r f.free at e f.fault f.next f.fetched; outcome = f.outcome })
         by_load r at (Some x) e f = f
 
-    pub turned : (command : C.LoadingCommand) → C.FamilyStep F L old command reply new → C.FamilyStep G M old command reply new
+    pub turned : (command : C.Command) → C.FamilyStep F L old command reply new → C.FamilyStep G M old command reply new
     turned (OfFar command) f = accesses (access_of command) (C.selector_in (C.pointer_in command)) f
     turned (C.OfModules (ModuleCommand.LoadModule file)) f = (f.0, f.1, load true file f.0 f.2)
     turned (C.OfModules (ModuleCommand.LoadLibrary file)) f = (f.0, f.1, load false file f.0 f.2)

@@ -1,7 +1,7 @@
 -- What each step leaves of objects that it isn't about, and of pinned ones, whatever the store answers.
 use Rattle.w16_loading.proofs
 use proofs.Common as C
-use proofs.Common.{◌≡◌, ℕ, inl, inr, ◌⊎◌, true, false, List, Some, None, refl, sym, subst, Handles, object_at, Call, CallStep, Calls, FetchesFrom, LoadsFrom, Fills, told, IsReleased, IsStepAbout, MayGo, call_of, LoadingCommand, OfFar, OfModules, OfResources, FreeResource, LoadingWorld}
+use proofs.Common.{◌≡◌, ℕ, inl, inr, ◌⊎◌, true, false, List, Some, None, refl, sym, subst, Handles, object_at, Call, CallStep, Calls, FetchesFrom, LoadsFrom, Fills, told, IsReleased, IsStepAbout, MayGo, call_of, Command, OfFar, OfModules, OfResources, FreeResource, LoadingWorld}
 use proofs.Common.{Reply, ResizeStep, GlobalReAlloc, GlobalDiscard}
 use proofs.Spared.{HasPinned, IsSpared, same_spared}
 use proofs.SparedByFrees.{resource_ended, uses_ended}
@@ -28,7 +28,7 @@ module _ (answers : C.Answers) (old : LoadingWorld) (is : C.IsLoadingWorld old) 
   Spared world = IsSpared old.handles.heap world.handles.heap q
 
   -- an object is spared, or gone with its module
-  abbrev SparedOrReleased : LoadingCommand → Type 0
+  abbrev SparedOrReleased : Command → Type 0
   SparedOrReleased command = Spared new ⊎ IsReleased command old new q
 
   same_world : new ≡ old → Spared new
@@ -54,22 +54,23 @@ module _ (answers : C.Answers) (old : LoadingWorld) (is : C.IsLoadingWorld old) 
   resources (FreeResource handle) f out = subst (λ w. IsSpared old.handles.heap w.handles.heap q ⊎ IsReleased (OfResources (FreeResource handle)) old w q) (sym f.1) (resource_ended old is q handle)
   resources other f out = inl (same_world f.1)
 
-  family_spares : (command : LoadingCommand) → C.FamilyStep (FetchesFrom Fills answers) (LoadsFrom Fills answers) old command reply new → (IsStepAbout old.handles command q → ⊥) → SparedOrReleased command
+  family_spares : (command : Command) → C.FamilyStep (FetchesFrom Fills answers) (LoadsFrom Fills answers) old command reply new → (IsStepAbout old.handles command q → ⊥) → SparedOrReleased command
   family_spares (C.OfHandles command) f out = let c : (answer : calls.Answer) × CallStep old.handles (Calls command) answer f.0 = answered old is command reply f.0 f.1 in inl (subst Spared (sym f.2) (call_spares (Calls command) c.0 f.0 c.1 out))
   family_spares (C.OfResizes command) f out = let c : (answer : calls.Answer) × CallStep old.handles (call_of command) answer f.0 = resize_call old.handles command reply f.0 f.1 in inl (subst Spared (sym f.2) (call_spares (call_of command) c.0 f.0 c.1 out))
   family_spares (OfFar command) f out = inl (access_spares answers old is q there new reply command out f)
   family_spares (OfModules command) f out = modules command f
   family_spares (OfResources command) f out = resources command f out
+  family_spares (C.OfLocals command) f out = absurd f
 
   -- Where the object is pinned, its own accesses, locks and calls leave it in place too, but for its reallocation and freeing.
   module _ (pinned : HasPinned old.handles.heap q) where
     abbrev Stands : LoadingWorld → Type 0
     Stands world = C.StandsStill old.handles.heap world.handles.heap q
 
-    abbrev StandsOrReleased : LoadingCommand → Type 0
+    abbrev StandsOrReleased : Command → Type 0
     StandsOrReleased command = Stands new ⊎ IsReleased command old new q
 
-    spared_stands : (command : LoadingCommand) → SparedOrReleased command → StandsOrReleased command
+    spared_stands : (command : Command) → SparedOrReleased command → StandsOrReleased command
     spared_stands command (inl s) = inl (s.1 pinned)
     spared_stands command (inr r) = inr r
 
@@ -77,7 +78,7 @@ module _ (answers : C.Answers) (old : LoadingWorld) (is : C.IsLoadingWorld old) 
     resource_stands (C.LockResource handle) f = inl (lock_stands answers old is q there new reply pinned handle f)
     resource_stands other f = spared_stands (OfResources other) (resources other f (λ about. about))
 
-    family_stands : (command : LoadingCommand) → C.FamilyStep (FetchesFrom Fills answers) (LoadsFrom Fills answers) old command reply new → (C.step_may_move_own command ≡ true → IsStepAbout old.handles command q → ⊥) → StandsOrReleased command
+    family_stands : (command : Command) → C.FamilyStep (FetchesFrom Fills answers) (LoadsFrom Fills answers) old command reply new → (C.step_may_move_own command ≡ true → IsStepAbout old.handles command q → ⊥) → StandsOrReleased command
     family_stands (C.OfHandles command) f out = let c : (answer : calls.Answer) × CallStep old.handles (Calls command) answer f.0 = answered old is command reply f.0 f.1 in inl (subst Stands (sym f.2) (calls_proofs.pinned_law old.handles f.0 (Calls command) c.0 q is.handles c.1 pinned out))
     family_stands (C.OfResizes command) f out = let c : (answer : calls.Answer) × CallStep old.handles (call_of command)
         answer f.0 = resize_call old.handles command reply f.0 f.1 in inl
@@ -86,9 +87,10 @@ module _ (answers : C.Answers) (old : LoadingWorld) (is : C.IsLoadingWorld old) 
     family_stands (OfFar command) f out = inl (access_stands answers old is q there new reply pinned command f)
     family_stands (OfModules command) f out = spared_stands (OfModules command) (modules command f)
     family_stands (OfResources command) f out = resource_stands command f
+    family_stands (C.OfLocals command) f out = absurd f
 
 -- the count of failures is no matter
-may_go : (old new : LoadingWorld) (failures q : ℕ) (command : LoadingCommand) → MayGo command old (record new { failures = failures }) q → MayGo command old new q
+may_go : (old new : LoadingWorld) (failures q : ℕ) (command : Command) → MayGo command old (record new { failures = failures }) q → MayGo command old new q
 may_go old new failures q (OfModules (C.FreeLibrary handle)) g = g
 may_go old new failures q (OfModules (C.FreeModule handle)) g = g
 may_go old new failures q (OfResources (FreeResource handle)) g = g

@@ -116,6 +116,3 @@ module _ (old : C.LoadingWorld) (is : IsLoadingWorld old) where
 
     pub resizes_code : (format : Format) → KeepsCode format old (record old { handles = next })
     resizes_code = call_code resized.0 resized.1 next resized.2
-
-pub calls_keep_worlds_law : C.CallsKeepWorldsLaw
-calls_keep_worlds_law old new command reply is f = subst IsLoadingWorld (sym f.2) (handles_world old is _ _ f.0 f.1)

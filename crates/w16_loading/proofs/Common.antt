@@ -11,11 +11,10 @@ pub use Rattle.std.specs.Option.{option_or}
 pub use Rattle.w16_loading.specs.Answers.{Answers, ClosesFrom, FetchesFrom, GivesFrom, HasTables, IsOwnedSize, LoadsFrom, ReadsFile, follow, said_by, told}
 pub use Rattle.w16_loading.specs.Bystanders.{IsFreedResource, IsReleased, IsStepAbout, IsUnloaded, IsUnused, MayGo, StepBystandersLaw, StepPinnedLaw, call_of, step_may_move_own}
 pub use Rattle.w16_loading.specs.Closure.{Around, Closure, Found, Reading, Referent, are_sound, around, begun, dll, meant, with_bound, with_found}
-pub use Rattle.w16_loading.specs.Closing.{Closes, after, followed, reading}
 pub use Rattle.w16_loading.specs.Closure.Reading.{Meant, Read, Refused}
 pub use Rattle.w16_loading.specs.Closure.Referent.{New, There}
-pub use Rattle.w16_loading.specs.Families.{AddsBuiltIn, FamilyStep, FarStep, GivesBuiltIn, Loading, LoadingCommand, ModuleCommand, ModuleStep, ResourceCommand, ResourceStep, built_in}
-pub use Rattle.w16_loading.specs.Families.LoadingCommand.{OfFar, OfHandles, OfModules, OfResizes, OfResources}
+pub use Rattle.w16_loading.specs.Families.{AddsBuiltIn, FamilyStep, FarStep, GivesBuiltIn, Loading, Command, ModuleCommand, ModuleStep, ResourceCommand, ResourceStep, built_in}
+pub use Rattle.w16_loading.specs.Families.Command.{OfFar, OfHandles, OfLocals, OfModules, OfResizes, OfResources}
 pub use Rattle.w16_loading.specs.Families.ModuleCommand.{Builtin, FreeLibrary, FreeModule, GetModuleHandle, GetModuleUsage, GetProcAddress, LoadLibrary, LoadModule}
 pub use Rattle.w16_loading.specs.Families.ResourceCommand.{FindResource, FreeResource, LoadResource, LockResource, SizeofResource}
 pub use Rattle.w16_loading.specs.Fetch.{Accesses, Fetching, IsImage, far_read, far_write, gives, needs_fetch, read_of, reply_of_far, resource_bytes, segment_bytes}
@@ -25,9 +24,9 @@ pub use Rattle.w16_loading.specs.File.Entry.{InSegment}
 pub use Rattle.w16_loading.specs.File.Target.{Import, ImportName, Internal, InternalEntry, System}
 pub use Rattle.w16_loading.specs.Fill.{Failure, Filling, Fills, Giving, InTurn, asked_of, is_of_read}
 pub use Rattle.w16_loading.specs.Free.{Frees, Go, is_left_over, used_less, without_module, without_orphans}
-pub use Rattle.w16_loading.specs.Law.{AnyStepLaw, BoundAlikeLaw, BoundOnceLaw, CallsKeepWorldsLaw, ClosureEndsLaw, ClosureFilesLaw, CodeIsItsFiles, CodeLaw, CodeReadsLaw, EarlyRefusalLaw, EmptyLaw, EmptyOfFilesLaw, IsLoadingCommand, is_code}
-pub use Rattle.w16_loading.specs.Law.{FetchAgainLaw, FetchFaultsLaw, FetchLaw, FetchRefusedLaw, FillLaw, FillsLaw, IsContent, IsFormat, IsItsFiles, IsLoad, IsLoadingWorld, IsModule, IsObjectOf, IsOfFiles, IsRefusal, KeepsOwner}
-pub use Rattle.w16_loading.specs.Law.{KeepsWorldsLaw, ModulesAreItsFiles, OneClosureLaw, OneEndLaw, OnlyDiscards, OwnersLaw, RefusedLoadLaw, SlotsLaw, TakenBackLaw, UndoneLaw, UsesApartLaw, ValuesLaw}
+pub use Rattle.w16_loading.specs.Law.{AnyStepLaw, CodeIsItsFiles, CodeLaw, CodeReadsLaw, EmptyLaw, EmptyOfFilesLaw, IsCommand, is_code}
+pub use Rattle.w16_loading.specs.Law.{FillLaw, IsContent, IsFormat, IsItsFiles, IsLoad, IsLoadingWorld, IsModule, IsObjectOf, IsOfFiles, IsRefusal, KeepsOwner}
+pub use Rattle.w16_loading.specs.Law.{KeepsWorldsLaw, ModulesAreItsFiles, OnlyDiscards, OwnersLaw, TakenBackLaw, UndoneLaw, ValuesLaw}
 pub use Rattle.w16_loading.specs.Law.{without_values}
 pub use Rattle.w16_loading.specs.Load.{Answer, Fulfils, LoadsNew, Refuses, after_use, left, outcome_of, refusal_of, refused_with, undone, used_again}
 pub use Rattle.w16_loading.specs.Load.Answer.{Says}

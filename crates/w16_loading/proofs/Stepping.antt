@@ -2,7 +2,7 @@
 use Rattle.w16_loading.proofs
 use proofs.Common as C
 use proofs.Common.{◌≡◌, ℕ, ◌+◌, ◌-◌, ◌<◌, ◌≤◌, inl, inr, Bool, true, false, cond, ◌&&◌, ◌==◌, nat_lt, List, Option, Some, None, refl, sym, ap, ◌∙◌, subst, arith, handle_of, selector_in, offset_in, repeated, FarCommand, MOST_USES, FetchFault, Resource, LoadingWorld, Load, Reply, Word}
-use proofs.Common.{far_write, gives, Frees, load_of, slot_of_resource, LoadingCommand, ModuleCommand, ResourceCommand}
+use proofs.Common.{far_write, gives, Frees, load_of, slot_of_resource, Command, ModuleCommand, ResourceCommand}
 use proofs.Importers.{entry_there, found_passes}
 use proofs.Cases.{IsLoadable, access_cases, by_option, lock_cases, resource_cases}
 use Rattle.std.specs.FinMap as finmap
@@ -59,14 +59,14 @@ pub record Parts (fetches : C.Fetching) (loads : C.Loading) (Ours : List ℕ →
   pub last : (slot : ℕ) (load : Load) → finmap.get old.loads slot ≡ Some load → P (without_load old slot)
 
 -- the bytes that a far access writes
-abbrev pub Writes : (List ℕ → Type 0) → LoadingCommand → Type 0
-Writes Ours (LoadingCommand.OfFar (FarCommand.Write pointer bytes)) = Ours bytes
-Writes Ours (LoadingCommand.OfFar (FarCommand.Fill pointer count byte)) = Ours (repeated count byte)
+abbrev pub Writes : (List ℕ → Type 0) → Command → Type 0
+Writes Ours (Command.OfFar (FarCommand.Write pointer bytes)) = Ours bytes
+Writes Ours (Command.OfFar (FarCommand.Fill pointer count byte)) = Ours (repeated count byte)
 Writes Ours other = Unit {0}
 
-pub nothing_asked : (command : LoadingCommand) → Writes (λ slice. Unit {0}) command
-nothing_asked (LoadingCommand.OfFar (FarCommand.Write pointer bytes)) = tt
-nothing_asked (LoadingCommand.OfFar (FarCommand.Fill pointer count byte)) = tt
+pub nothing_asked : (command : Command) → Writes (λ slice. Unit {0}) command
+nothing_asked (Command.OfFar (FarCommand.Write pointer bytes)) = tt
+nothing_asked (Command.OfFar (FarCommand.Fill pointer count byte)) = tt
 nothing_asked command = tt
 
 module _ (fetches : C.Fetching) (loads : C.Loading) (Ours : List ℕ → Type 0) (old : LoadingWorld) (P : LoadingWorld → Type 0) (parts : Parts fetches loads Ours old P) (new : LoadingWorld) (reply : Reply) where
@@ -84,7 +84,7 @@ module _ (fetches : C.Fetching) (loads : C.Loading) (Ours : List ℕ → Type 0)
       after next None good g = subst P (sym g.1) (keeps next good)
       after next (Some f) good g = subst P (sym g.1) good
 
-  far : (command : FarCommand) → Writes Ours (LoadingCommand.OfFar command) → C.FarStep fetches old command reply new → P new
+  far : (command : FarCommand) → Writes Ours (Command.OfFar command) → C.FarStep fetches old command reply new → P new
   far (FarCommand.Read pointer count) ours step = accessed (C.far_read (selector_in pointer) (offset_in pointer) count) (parts.reads (selector_in pointer) (offset_in pointer) count) (selector_in pointer) step
   far (FarCommand.Write pointer bytes) ours step = accessed (far_write (selector_in pointer) (offset_in pointer) bytes) (λ w. parts.writes (selector_in pointer) (offset_in pointer) bytes w ours) (selector_in pointer) step
   far (FarCommand.Fill pointer count byte) ours step =
@@ -161,9 +161,10 @@ module _ (fetches : C.Fetching) (loads : C.Loading) (Ours : List ℕ → Type 0)
   resources (ResourceCommand.FreeResource handle) f = subst P (sym f.1) (resource_freed handle)
   resources other f = as_it_was f.1
 
-  pub family : (command : LoadingCommand) → Writes Ours command → C.FamilyStep fetches loads old command reply new → P new
-  family (LoadingCommand.OfHandles command) ours f = subst P (sym f.2) (parts.handles command reply f.0 f.1)
-  family (LoadingCommand.OfResizes command) ours f = subst P (sym f.2) (parts.resizes command reply f.0 f.1)
-  family (LoadingCommand.OfFar command) ours f = far command ours f
-  family (LoadingCommand.OfModules command) ours f = modules command f
-  family (LoadingCommand.OfResources command) ours f = resources command f
+  pub family : (command : Command) → Writes Ours command → C.FamilyStep fetches loads old command reply new → P new
+  family (Command.OfHandles command) ours f = subst P (sym f.2) (parts.handles command reply f.0 f.1)
+  family (Command.OfResizes command) ours f = subst P (sym f.2) (parts.resizes command reply f.0 f.1)
+  family (Command.OfFar command) ours f = far command ours f
+  family (Command.OfModules command) ours f = modules command f
+  family (Command.OfResources command) ours f = resources command f
+  family (Command.OfLocals command) ours f = absurd f

@@ -1,7 +1,7 @@
 -- Each step of each family keeps what holds of every world, whatever the store answers.
 use Rattle.w16_loading.proofs
 use proofs.Common as C
-use proofs.Common.{◌<◌, All, Some, None, refl, sym, ap, subst, Heap, FarCommand, LoadingWorld, named, fills, left, Answers, Fills, told, LoadingCommand, IsLoadingWorld}
+use proofs.Common.{◌<◌, All, Some, None, refl, sym, ap, subst, Heap, FarCommand, LoadingWorld, named, fills, left, Answers, Fills, told, Command, IsLoadingWorld}
 use proofs.KeptWorlds.{kept_left, left_owned, world_stays, recounted}
 use proofs.FarWorlds.{read_world, write_world}
 use proofs.ModuleWorlds.{used_world, built_world}
@@ -42,9 +42,9 @@ module _ (answers : Answers) (are : HoldFiles answers) (old : LoadingWorld) (is 
     last = λ slot load there. last_world old is slot load there;
   }
 
-ours : (command : LoadingCommand) → C.IsLoadingCommand command → Writes (λ slice. All (λ b. b < 256) slice) command
-ours (LoadingCommand.OfFar (FarCommand.Write pointer bytes)) known = known
-ours (LoadingCommand.OfFar (FarCommand.Fill pointer count byte)) known = C.All-repeated _ _ known
+ours : (command : Command) → C.IsCommand command → Writes (λ slice. All (λ b. b < 256) slice) command
+ours (Command.OfFar (FarCommand.Write pointer bytes)) known = known
+ours (Command.OfFar (FarCommand.Fill pointer count byte)) known = C.All-repeated _ _ known
 ours command known = tt
 
 pub keeps_worlds_law : (honest : Type 0) → C.KeepsWorldsLaw honest

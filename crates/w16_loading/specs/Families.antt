@@ -1,4 +1,5 @@
--- The machine with modules, family by family: the calls on handles, far accesses, modules, resources.
+-- The commands of the machine, family by family, and what a step of each family does. Only calls on local heaps have their steps elsewhere, in
+-- `LocalCalls` of w16_machine.
 use Rattle.w16_loading.specs
 use Rattle.std.specs.Prelude.{◌≡◌, ℕ, ◌⊎◌, Bool, true, false, List, Option, Some, MatchOption, unwrap_or}
 use Rattle.w16_model.specs.Far.FarCommand.{Read, Write, Fill}
@@ -31,12 +32,29 @@ pub data ResourceCommand : Type 0 where
   FreeResource : (handle : ℕ) → ResourceCommand
   SizeofResource : (handle place : ℕ) → ResourceCommand
 
-pub data LoadingCommand : Type 0 where
-  OfHandles : HandleCommand → LoadingCommand
-  OfResizes : ResizeCommand → LoadingCommand
-  OfFar : FarCommand → LoadingCommand
-  OfModules : ModuleCommand → LoadingCommand
-  OfResources : ResourceCommand → LoadingCommand
+-- a call on local heaps, with its arguments as numbers
+pub data LocalCommand : Type 0 where
+  LocalInit : (selector start end : ℕ) → LocalCommand
+  LocalAlloc : (flags size : ℕ) → LocalCommand
+  LocalReAlloc : (name size flags : ℕ) → LocalCommand
+  LocalDiscard : (name : ℕ) → LocalCommand
+  LocalFree : (name : ℕ) → LocalCommand
+  LocalLock : (name : ℕ) → LocalCommand
+  LocalUnlock : (name : ℕ) → LocalCommand
+  LocalSize : (name : ℕ) → LocalCommand
+  LocalFlags : (name : ℕ) → LocalCommand
+  LocalHandle : (pointer : ℕ) → LocalCommand
+  LocalCompact : (size : ℕ) → LocalCommand
+  DS : (selector : ℕ) → LocalCommand
+
+-- A command is of one of six families.
+pub data Command : Type 0 where
+  OfHandles : HandleCommand → Command
+  OfResizes : ResizeCommand → Command
+  OfFar : FarCommand → Command
+  OfModules : ModuleCommand → Command
+  OfResources : ResourceCommand → Command
+  OfLocals : LocalCommand → Command
 
 abbrev pub word : ℕ → Reply
 word n = (replies.Reply.Word n)
@@ -105,9 +123,11 @@ ResourceStep fetches old (LockResource handle) reply new = LocksResource fetches
 ResourceStep fetches old (FreeResource handle) reply new = (reply ≡ word (free_resource old handle).0) × (new ≡ (free_resource old handle).1)
 ResourceStep fetches old (SizeofResource handle place) reply new = (reply ≡ dword (size_of_resource old handle place)) × (new ≡ old)
 
-abbrev pub FamilyStep : Fetching → Loading → LoadingWorld → LoadingCommand → Reply → LoadingWorld → Type 0
+-- A step of a family: none here where the command is a call on local heaps.
+abbrev pub FamilyStep : Fetching → Loading → LoadingWorld → Command → Reply → LoadingWorld → Type 0
 FamilyStep fetches loads old (OfHandles command) reply new = HandleStep old command reply new
 FamilyStep fetches loads old (OfResizes command) reply new = ResizesStep old command reply new
 FamilyStep fetches loads old (OfFar command) reply new = FarStep fetches old command reply new
 FamilyStep fetches loads old (OfModules command) reply new = ModuleStep loads old command reply new
 FamilyStep fetches loads old (OfResources command) reply new = ResourceStep fetches old command reply new
+FamilyStep fetches loads old (OfLocals command) reply new = ⊥

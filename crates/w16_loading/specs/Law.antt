@@ -1,28 +1,28 @@
--- What holds of all files and of every world with modules, and the laws that show the definitions right.
+-- What holds of all files and of every world with modules, and the laws that show the definitions right, where other proofs stand on them. Each
+-- law is the contract of a function of `w16_laws`, which also has those on which nothing stands.
 use Rattle.w16_loading.specs
-use Rattle.std.specs.Prelude.{◌≡◌, ◌≢◌, ℕ, ◌+◌, ◌-◌, ◌<◌, ◌≤◌, ◌⊎◌, Bool, true, false, List, length, All, if◌then◌else◌, Option, Some, None, is_some, IfSome, IsSomeAnd, fold, ◌↔◌, [], MatchResult, IfOk}
-use Rattle.std.specs.List.{AllZip, AllByRecursion}
+use Rattle.std.specs.Prelude.{◌≡◌, ℕ, ◌+◌, ◌<◌, ◌≤◌, ◌⊎◌, Bool, true, false, List, length, All, if◌then◌else◌, Option, Some, None, is_some, IfSome, IsSomeAnd, fold, [], MatchResult, IfOk}
+use Rattle.std.specs.List.{AllZip}
 use Rattle.w16_model.specs.Handles.{Handles, slot_of_selector, selector_in, offset_in, IsFreeSlot}
 use Rattle.w16_model.specs.Heap.{Heap, Object, IsHeap, object_at, bytes_at}
 use Rattle.w16_model.specs.{Bytes.part, Far.FarCommand.Read, Owned.owned_at, Owned.revival_options, declared.TheConstants.MOST_SLOTS, CallLaws.IsKeptOrDiscarded, Request.Allocates, Law.AreHandles, Law.empty_handles}
-use Rattle.w16_model.specs.{Calls.HandleCommand, Calls.rounded_size, Law.IsFarCommand, Law.FarStep, Far.pointer_in, Far.FarCommand}
-use Rattle.w16_model.specs.{Far.after_write, declared.Kind.Kind, Law.KeepsOthers, Discards.is_member}
-use specs.declared.TheConstants.{FIRST_MODULE, LARGEST_OWNED, MOST_MODULES, MOST_USES}
+use Rattle.w16_model.specs.{Calls.rounded_size, Law.IsFarCommand, Law.FarStep, Far.pointer_in, Far.FarCommand}
+use Rattle.w16_model.specs.{Far.after_write, declared.Kind.Kind, Discards.is_member}
+use specs.declared.TheConstants.{FIRST_MODULE, MOST_MODULES, MOST_USES}
 use specs.File.{Saying, Format, ModuleFile, Segment, SegmentData, Far, Target, IsModuleFile, Resource, numbered}
-use specs.Modules.{with_heap, LoadingWorld, Lookup, Module, Load, Named, value_of, IsSegmentOf, IsResourceOf, name_of, module_at, usage, importers}
-use specs.Fill.{Fills, Filling, Failure, InTurn}
-use specs.Closure.{Around, Closure, Found, around}
-use specs.Naming.{Choice, IsChoice, AreSlots, free_slots, segments_in, given, with_modules, unbound, bound, named, with_segment}
+use specs.Modules.{LoadingWorld, Lookup, Module, Load, Named, value_of, IsSegmentOf, IsResourceOf, name_of, module_at, usage}
+use specs.Fill.{Fills}
+use specs.Closure.{Closure}
+use specs.Naming.{Choice, IsChoice, named, with_segment}
 use specs.Load.Answer.{Says, StoreFails}
-use specs.Answers.{ClosesFrom, GivesFrom, StepOver, told, FetchesFrom, LoadsFrom}
-use specs.Families.{LoadingCommand, HandleStep, access_of}
-use specs.Families.LoadingCommand.{OfFar, OfHandles, OfModules, OfResizes, OfResources}
+use specs.Answers.{StepOver, told, FetchesFrom}
+use specs.Families.{Command, access_of}
+use Rattle.w16_loading.specs.Families.Command.{OfFar, OfHandles, OfLocals, OfModules, OfResizes, OfResources}
 use specs.Replies.Reply.{Bytes, Done, Fault}
 use specs.Fetch.{read_of, segment_bytes, needs_fetch}
-use specs.{declared.FetchFault.FetchFault, Refusals.OrRefused, Refusals.is_of_format, Modules.Named.Loaded, Release.without_objects, Load.Answer, Load.undone, Replies.Reply, Free.Go, Free.Frees, Resource.is_too_long, Resource.resource_at, Closing.Closes}
+use specs.{declared.FetchFault.FetchFault, Refusals.is_of_format, Modules.Named.Loaded, Release.without_objects, Load.Answer, Load.undone, Replies.Reply, Resource.is_too_long, Resource.resource_at}
 use Rattle.w16_store.specs.Names.{is_named}
 use Rattle.std.specs.FinMap as finmap
-use Rattle.w16_loading.specs.declared.FetchFault.TheVariants as faults
 use Rattle.w16_model.specs.Owned as owned
 use Rattle.w16_model.specs.Far as far
 
@@ -42,12 +42,13 @@ pub record IsFormat (format : Format) : Type 0 where
       → IfOk (format.says file) (λ read. IfSome (numbered read.tables.resources number) (λ r. IsSomeAnd (format.contents file number) (IsContent r)))
 
 -- a command's numbers are in their range, where they have one
-abbrev pub IsLoadingCommand : LoadingCommand → Type 0
-IsLoadingCommand (OfHandles command) = Unit {0}
-IsLoadingCommand (OfResizes command) = Unit {0}
-IsLoadingCommand (OfFar command) = IsFarCommand command
-IsLoadingCommand (OfModules command) = Unit {0}
-IsLoadingCommand (OfResources command) = Unit {0}
+abbrev pub IsCommand : Command → Type 0
+IsCommand (OfHandles command) = Unit {0}
+IsCommand (OfResizes command) = Unit {0}
+IsCommand (OfFar command) = IsFarCommand command
+IsCommand (OfModules command) = Unit {0}
+IsCommand (OfResources command) = Unit {0}
+IsCommand (OfLocals command) = Unit {0}
 
 -- whether a far access meets a module's object without bytes, and fetches it
 abbrev pub far_reads_file : LoadingWorld → FarCommand → Bool
@@ -68,19 +69,9 @@ far_answer_in other = None
 abbrev pub FarReplies : Handles → FarCommand → Reply → Handles → Type 0
 FarReplies old command reply new = IsSomeAnd (far_answer_in reply) (λ answer. FarStep old command answer new)
 
--- a fetch and a load over a store, while whose count of failures went from one number to another
+-- a fetch over a store whose count of failures went from one number to another meanwhile
 abbrev pub FetchesOver : (honest : Type 0) → Format → (before after : ℕ) → LoadingWorld → ℕ → Option FetchFault → LoadingWorld → Type 0
 FetchesOver honest format before after old slot fault new = FetchesFrom Fills (told honest format old.files before after) old slot fault new
-
-abbrev pub LoadsOver : (honest : Type 0) → Format → (before after : ℕ) → Bool → LoadingWorld → List ℕ → Answer → LoadingWorld → Type 0
-LoadsOver honest format before after is_load_module old file answer new = LoadsFrom Fills (told honest format old.files before after) is_load_module old file answer new
-
--- the figures of the profile, each as it is told to users
-pub record AreFigures : Type 0 where
-  pub first_module : FIRST_MODULE ≡ 33
-  pub most_modules : MOST_MODULES ≡ 200
-  pub most_uses : MOST_USES ≡ 65000
-  pub largest_owned : LARGEST_OWNED ≡ 65536
 
 -- Worlds.
 
@@ -147,18 +138,13 @@ EmptyOfFilesLaw = (format : Format) (memory slots : ℕ) (files : List (List ℕ
 
 -- A step keeps what holds of every world, whatever the store answers,
 abbrev pub KeepsWorldsLaw : (honest : Type 0) → Type 0
-KeepsWorldsLaw honest = (format : Format) (old new : LoadingWorld) (command : LoadingCommand) (reply : Reply) → IsLoadingWorld old → IsLoadingCommand command
+KeepsWorldsLaw honest = (format : Format) (old new : LoadingWorld) (command : Command) (reply : Reply) → IsLoadingWorld old → IsCommand command
     → StepOver honest format old command reply new → IsLoadingWorld new
 
 -- and one over an honest store is one over any.
 abbrev pub AnyStepLaw : (honest : Type 0) → Type 0
-AnyStepLaw honest = (format : Format) (old new : LoadingWorld) (command : LoadingCommand) (reply : Reply) → StepOver honest format old command reply new
+AnyStepLaw honest = (format : Format) (old new : LoadingWorld) (command : Command) (reply : Reply) → StepOver honest format old command reply new
     → StepOver ⊥ format old command reply new
-
--- Of the calls on handles this is proved by themselves: what a module owns keeps its kind and its size, whatever is moved or discarded
-abbrev pub CallsKeepWorldsLaw : Type 0
-CallsKeepWorldsLaw = (old new : LoadingWorld) (command : HandleCommand) (reply : Reply) → IsLoadingWorld old → HandleStep old command reply new
-    → IsLoadingWorld new
 
 -- an object keeps its owner, or has none any more
 abbrev pub KeepsOwner : Handles → Handles → ℕ → Type 0
@@ -166,12 +152,12 @@ KeepsOwner old new slot = (owned_at new slot ≡ owned_at old slot) ⊎ (owned_a
 
 -- So does each object that is there, whatever the store answers: none comes to be a module's, or code.
 abbrev pub OwnersLaw : (honest : Type 0) → Type 0
-OwnersLaw honest = (format : Format) (old new : LoadingWorld) (command : LoadingCommand) (reply : Reply) → IsLoadingWorld old → StepOver honest format old command reply new
+OwnersLaw honest = (format : Format) (old new : LoadingWorld) (command : Command) (reply : Reply) → IsLoadingWorld old → StepOver honest format old command reply new
     → (slot : ℕ) → is_some (object_at old.handles.heap slot) ≡ true → KeepsOwner old.handles new.handles slot
 
 -- the code that a script reads is always its file's, relocated, where the store is honest
 abbrev pub CodeLaw : (honest : Type 0) → Type 0
-CodeLaw honest = (format : Format) (old new : LoadingWorld) (command : LoadingCommand) (reply : Reply) → honest → IsLoadingWorld old → IsOfFiles format old
+CodeLaw honest = (format : Format) (old new : LoadingWorld) (command : Command) (reply : Reply) → honest → IsLoadingWorld old → IsOfFiles format old
     → StepOver honest format old command reply new → IsOfFiles format new
 
 -- What a far read of code answers is a part of its file's bytes, relocated: also where the code was discarded and is fetched for it.
@@ -182,58 +168,18 @@ CodeReadsLaw honest = (format : Format) (old new : LoadingWorld) (pointer count 
     → slot_of_selector old.handles (selector_in pointer) ≡ Some slot → IsSegmentOf old slot handle number m → is_code old slot ≡ true
     → IsSomeAnd (segment_bytes format old m number) (λ image. bytes ≡ part image (offset_in pointer) count)
 
--- what was bound at load stays until the module goes
-abbrev pub BoundOnceLaw : (honest : Type 0) → Type 0
-BoundOnceLaw honest = (format : Format) (old new : LoadingWorld) (command : LoadingCommand) (reply : Reply) → StepOver honest format old command reply new
-    → (handle : ℕ) (m n : Module) → module_at old.modules handle ≡ Some m → module_at new.modules handle ≡ Some n → (n.values ≡ m.values) × (n.slots ≡ m.slots) × (n.imports ≡ m.imports)
-
--- the files decide which modules a load finds: one outcome
-abbrev pub OneClosureLaw : Type 0
-OneClosureLaw = (says : Saying) (a : Around) (closure : Closure) (x y : OrRefused Closure) → Closes says a closure x → Closes says a closure y → x ≡ y
-
--- and there is one, also where each file asks for another without end
-abbrev pub ClosureEndsLaw : Type 0
-ClosureEndsLaw = (says : Saying) (a : Around) (closure : Closure) → (outcome : OrRefused Closure) × Closes says a closure outcome
-
--- It is the one that a load gets from the answers of an honest store.
-abbrev pub ClosureFilesLaw : (honest : Type 0) → Type 0
-ClosureFilesLaw honest = (format : Format) (before after : ℕ) (old : LoadingWorld) (count : ℕ) (closure : Closure) (outcome : OrRefused Closure) → honest
-    → ClosesFrom (told honest format old.files before after) (around old) count closure outcome → Closes format.says (around old) closure outcome
-
--- a load over an honest store that is refused with no handle taken leaves the same world: every number but 0
-abbrev pub EarlyRefusalLaw : (honest : Type 0) → Type 0
-EarlyRefusalLaw honest = (format : Format) (before after : ℕ) (is_load_module : Bool) (old new : LoadingWorld) (file : List ℕ) (number : ℕ) → honest → IsLoadingWorld old
-    → LoadsOver honest format before after is_load_module old file (Says number) new
-    → 0 < number → number < FIRST_MODULE → new ≡ old
-
 -- what a refused load leaves, whatever was read
 pub record OnlyDiscards (old new : Heap) : Type 0 where
   pub sound : IsHeap new
   pub objects : (q : ℕ) → IsKeptOrDiscarded old new q
   pub rest : new ≡ record old { objects = new.objects; places = new.places; order = new.order }
 
--- a load's requests keep the objects that aren't its own so, however far they came
-abbrev pub FillsLaw : (honest : Type 0) → Type 0
-FillsLaw honest = (format : Format) (files : List (List ℕ × List ℕ)) (before after : ℕ) (old new : Heap) (xs : List Filling) (failure : Option Failure) → IsHeap old
-    → InTurn (GivesFrom Fills (told honest format files before after)) old xs failure new
-    → IsHeap new × ((q : ℕ) → AllByRecursion (λ x. q ≢ x.slot) xs → IsKeptOrDiscarded old new q)
-
 -- an answer that isn't a handle
 abbrev pub IsRefusal : Answer → Type 0
 IsRefusal (Says number) = number < FIRST_MODULE
 IsRefusal StoreFails = Unit {0}
 
-abbrev pub RefusedLoadLaw : (honest : Type 0) → Type 0
-RefusedLoadLaw honest = (format : Format) (before after : ℕ) (is_load_module : Bool) (old new : LoadingWorld) (file : List ℕ) (answer : Answer) → IsLoadingWorld old
-    → LoadsOver honest format before after is_load_module old file answer new → IsRefusal answer
-    → OnlyDiscards old.handles.heap new.handles.heap × (new ≡ with_heap old new.handles.heap)
-
--- there are slots for the segments of a load exactly where as many are free
-abbrev pub SlotsLaw : Type 0
-SlotsLaw = (world : LoadingWorld) (found : List Found)
-    → (segments_in found ≤ length (free_slots world.handles)) ↔ ((slots : List (List ℕ)) × AreSlots world found slots)
-
--- What a record is bound to depends on no values: look-ups that differ in these alone give it the same,
+-- What a record is bound to depends on no values: look-ups that differ in these alone give it the same.
 abbrev pub without_values : Option Named → Option Named
 without_values (Some (Loaded m)) = Some (Loaded (record m { values = [] }))
 without_values other = other
@@ -241,11 +187,6 @@ without_values other = other
 abbrev pub ValuesLaw : Type 0
 ValuesLaw = (f g : Lookup) (m : Module) (target : Target) → ((handle : ℕ) → without_values (f handle) ≡ without_values (g handle))
     → value_of f m target ≡ value_of g m target
-
--- and so do the modules of a load, bound or not yet
-abbrev pub BoundAlikeLaw : Type 0
-BoundAlikeLaw = (old : LoadingWorld) (closure : Closure) (choice : Choice) (m : Module) (target : Target)
-    → value_of (finmap.get (with_modules (bound old closure choice) (given closure choice) old.modules)) m target ≡ value_of (finmap.get (with_modules (unbound closure choice) (given closure choice) old.modules)) m target
 
 -- objects that are added under free slots, however many so far, and are taken away again leave the same world
 abbrev pub TakenBackLaw : Type 0
@@ -262,48 +203,3 @@ UndoneLaw = (old : LoadingWorld) (closure : Closure) (choice : Choice) → AreHa
 abbrev pub FillLaw : Type 0
 FillLaw = (old next : Heap) (slot : ℕ) (o : Object) (bytes : List ℕ) (answered : Bool) → object_at old slot ≡ Some o → o.bytes ≡ None → All (λ b. b < 256) bytes
     → Allocates old slot (length bytes) o.kind o.locks revival_options answered next → Fills old slot bytes answered (if answered then after_write next slot 0 bytes else next)
-
--- What code of a module had as bytes, it has again once it is fetched, whatever was moved, discarded or loaded between, while its module and
--- the files stay.
-abbrev pub FetchAgainLaw : (honest : Type 0) → Type 0
-FetchAgainLaw honest = (format : Format) (from to : ℕ) (before absent after : LoadingWorld) (slot handle number : ℕ) (m : Module) (bytes : List ℕ) → honest → IsLoadingWorld absent
-    → CodeIsItsFiles format before
-    → IsSegmentOf before slot handle number m → is_code before slot ≡ true → bytes_at before.handles.heap slot ≡ Some bytes
-    → absent.modules ≡ before.modules → absent.files ≡ before.files → FetchesOver honest format from to absent slot None after → bytes_at after.handles.heap slot ≡ Some bytes
-
--- a fetch keeps all other objects, but for those that it discards, of which it takes the bytes alone; and nothing else changes
-pub record FetchKeeps (old : LoadingWorld) (slot : ℕ) (new : LoadingWorld) : Type 0 where
-  pub number : ℕ
-  pub others : KeepsOthers old.handles.heap (Some slot) number new.handles.heap
-  pub rest : new ≡ record old { handles = record old.handles { heap = new.handles.heap } }
-
-abbrev pub FetchLaw : (honest : Type 0) → Type 0
-FetchLaw honest = (format : Format) (before after : ℕ) (old new : LoadingWorld) (slot : ℕ) (fault : Option FetchFault) → IsHeap old.handles.heap
-    → FetchesOver honest format before after old slot fault new → FetchKeeps old slot new
-
--- a fetch that is refused leaves the same world
-abbrev pub FetchRefusedLaw : (honest : Type 0) → Type 0
-FetchRefusedLaw honest = (format : Format) (before after : ℕ) (old new : LoadingWorld) (slot : ℕ) (fault : FetchFault) → FetchesOver honest format before after old slot (Some fault) new → new ≡ old
-
--- files that stay never read otherwise than they did: only the device and want of room refuse a fetch
-abbrev pub FetchFaultsLaw : (honest : Type 0) → Type 0
-FetchFaultsLaw honest = (format : Format) (before after : ℕ) (old new : LoadingWorld) (slot : ℕ) (fault : FetchFault) → honest → FetchesOver honest format before after old slot (Some fault) new
-    → (fault ≡ faults.Store) ⊎ (fault ≡ faults.NoRoom)
-
--- Explicit uses and importers are counted apart. A module that others import, or that has another explicit use, loses one use at most, and all
--- else stays; where it has no explicit use, nothing at all changes.
-pub record LosesUse (old : LoadingWorld) (handle answer : ℕ) (m : Module) (new : LoadingWorld) : Type 0 where
-  pub answered : answer ≡ 1
-  pub less : module_at new.modules handle ≡ Some (record m { uses = m.uses - 1 })
-  pub others : (other : ℕ) → other ≢ handle → finmap.get new.modules other ≡ finmap.get old.modules other
-  pub handles : new.handles ≡ old.handles
-  pub loads : new.loads ≡ old.loads
-  pub unused : m.uses ≡ 0 → new ≡ old
-
-abbrev pub UsesApartLaw : Type 0
-UsesApartLaw = (old new : LoadingWorld) (handle answer : ℕ) (m : Module) → IsLoadingWorld old → module_at old.modules handle ≡ Some m
-    → (0 < importers old.modules handle) ⊎ (1 < m.uses) → Frees old handle answer new → LosesUse old handle answer m new
-
--- the order in which unused modules go doesn't matter
-abbrev pub OneEndLaw : Type 0
-OneEndLaw = (old a b : LoadingWorld) (xs ys : List ℕ) → Go old xs a → Go old ys b → a ≡ b

@@ -6,7 +6,6 @@ pub mod Modules
 pub mod Fill
 pub mod Release
 pub mod Closure
-pub mod Closing
 pub mod Naming
 pub mod Load
 pub mod Fetch

@@ -1,13 +1,13 @@
 -- What each step spares, and so each step of a run.
 use Rattle.w16_machine.proofs
-use proofs.Common.{◌≡◌, ◌≢◌, ℕ, ◌⊎◌, inl, inr, true, List, Option, Some, None, IsSomeAnd, option_map, refl, sym, ap, ◌∙◌, subst, cases_Bool, cases_eq, Object, object_at, is_pinned_object, StandsStill, Table, bytes_in, LoadingCommand, Format, Reply, Word, Done, bystanders_law, pinned_law}
-use proofs.Common.{World, IsWorld, LocalHeap, heap_of, local_in, current_heap, segment_bytes, LocalCommand, LocalStep, DS, HasSameObjects, IsHeapKept, IsLocalKept, IsObjectKept, IsRewritten, KeepsRest, asks_for_room, but_bytes, may_move_named, Step, OfLoading, OfLocals, IsLocalAbout}
-use proofs.Common.{IsLocalSpared, StepSparesLaw, RunSparesLaw, ◌<◌, is_some, bytes_at, Discardable, IsHeapLeft, IsLeftByGrowth, IsLengthened, KeepsRestLonger, length}
+use proofs.Common.{◌≡◌, ◌≢◌, ℕ, ◌⊎◌, inl, inr, true, List, Option, Some, None, IsSomeAnd, option_map, refl, sym, ap, ◌∙◌, subst, cases_Bool, cases_eq, Object, object_at, is_pinned_object, StandsStill, Table, bytes_in, Command, Format, Reply, Word, Done, bystanders_law, pinned_law}
+use proofs.Common.{World, IsWorld, LocalHeap, heap_of, local_in, current_heap, segment_bytes, LocalCommand, LocalStep, DS, HasSameObjects, IsHeapKept, IsLocalKept, IsObjectKept, IsRewritten, KeepsRest, asks_for_room, but_bytes, may_move_named, LoadingStep, OfLocals, IsLocalAbout}
+use proofs.Common.{IsLocalSpared, StepSparesLaw, ◌<◌, is_some, bytes_at, Discardable, IsHeapLeft, IsLeftByGrowth, IsLengthened, KeepsRestLonger, length}
 use proofs.LocalFacts.{IsThere, current_there, local_there, object_of, there_local, found}
 use proofs.LocalOthers.{local_others_law, local_pinned_law, stands_same}
 use proofs.LocalOutcomes.{Outcome, outcome}
-use proofs.{LocalFar.same_heaps, LocalFrame.frame_law, LocalGoes.goes_law, LocalGoes.left_inside, LocalLeft.left_is, LocalLonger.leaves_longer, Runs.run_each, Worlds.world_law}
-use Rattle.w16_machine.specs.Bystanders.{IsSpared, Spares}
+use proofs.{LocalFar.same_heaps, LocalFrame.frame_law, LocalGoes.goes_law, LocalGoes.left_inside, LocalLeft.left_is, LocalLonger.leaves_longer}
+use Rattle.w16_machine.specs.Bystanders.{IsSpared}
 use Rattle.std.specs.FinMap as finmap
 
 -- DS.
@@ -24,7 +24,7 @@ local_ds old new command (Word answer) step other = outcome_ds old new command a
 local_ds old new command reply step other = absurd step
 
 -- A step of loading leaves each local heap that stays its table.
-module _ (honest : Type 0) (format : Format) (old new : World) (command : LoadingCommand) (reply : Reply) (is : IsWorld old) (step : Step honest format old (OfLoading command) reply new) (slot : ℕ) (at after : LocalHeap) (e : local_in old slot ≡ Some at) (f : local_in new slot ≡ Some after) where
+module _ (honest : Type 0) (format : Format) (old new : World) (command : Command) (reply : Reply) (is : IsWorld old) (step : LoadingStep honest format old command reply new) (slot : ℕ) (at after : LocalHeap) (e : local_in old slot ≡ Some at) (f : local_in new slot ≡ Some after) where
   same_table : after.table ≡ at.table
   same_table =
       let was : IsThere old at × (at.slot ≡ slot) = local_there old slot at e in
@@ -151,17 +151,6 @@ module _ (old new : World) (command : LocalCommand) (is : IsWorld old) (q : ℕ)
   object_stands pinned (inr r) = (leaves_longer old new command is.heaps r).pinned q pinned
 
 pub step_spares_law : (honest : Type 0) → StepSparesLaw honest
-step_spares_law honest format old new (OfLoading command) reply is step = record {
-  ds = λ other. ap (λ w. w.ds) step.1;
-  bytes = record {
-    objects = λ q there other. bystanders_law honest format _ _ command reply q is.loading step.0 there other;
-    local_objects = λ slot at after q o e f there other. inl ((stays_same honest format old new command reply is step slot at after e f).objects q ∙ ap (option_map _) there);
-  };
-  addresses = record {
-    objects = λ q pinned unmoved. pinned_law honest format _ _ command reply q is.loading step.0 pinned unmoved;
-    local_objects = λ slot at after q o e f there pinned unmoved. stands_same (heap_of at) (heap_of after) q (ap (λ h. finmap.get h.places q) (stays_same honest format old new command reply is step slot at after e f).rest);
-  };
-}
 step_spares_law honest format old new (OfLocals command) reply is step = record {
   ds = λ other. local_ds old new command reply step other;
   bytes = record {
@@ -173,7 +162,14 @@ step_spares_law honest format old new (OfLocals command) reply is step = record 
     local_objects = λ slot at after q o e f there pinned unmoved. local_stands old new command reply is step slot at after e f q o there pinned unmoved;
   };
 }
-
-pub run_spares_law : (honest : Type 0) → RunSparesLaw honest
-run_spares_law honest format old new events is known run = (run_each _ _ (λ now event. Spares now _ _)
-    (λ now event is known step. (step_spares_law honest format now _ _ _ is step, world_law honest format now _ _ _ is known step)) old new _ is known run).0
+step_spares_law honest format old new command reply is step = record {
+  ds = λ other. ap (λ w. w.ds) step.1;
+  bytes = record {
+    objects = λ q there other. bystanders_law honest format _ _ command reply q is.loading step.0 there other;
+    local_objects = λ slot at after q o e f there other. inl ((stays_same honest format old new command reply is step slot at after e f).objects q ∙ ap (option_map _) there);
+  };
+  addresses = record {
+    objects = λ q pinned unmoved. pinned_law honest format _ _ command reply q is.loading step.0 pinned unmoved;
+    local_objects = λ slot at after q o e f there pinned unmoved. stands_same (heap_of at) (heap_of after) q (ap (λ h. finmap.get h.places q) (stays_same honest format old new command reply is step slot at after e f).rest);
+  };
+}

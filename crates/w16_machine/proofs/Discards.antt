@@ -3,7 +3,7 @@ use Rattle.w16_machine.proofs
 use proofs.Common as C
 use proofs.Common.{◌≡◌, subst, Format, Reply, Word, Dword, World, Event, Command, Step}
 use proofs.LocalFewest.{local_alloc_law, local_compact_law, local_realloc_law}
-use proofs.Stepped.{call_replies, resize_replies}
+use proofs.Stepped.{call_replies, loading_part, resize_replies}
 use Rattle.w16_loading.proofs.Requests.{any_requests_fewest}
 
 -- the same step, told with its command, and with its reply
@@ -25,5 +25,5 @@ step_fewest honest format old event is step = record {
   local_alloc = λ flags size answer at c r current. local_alloc_law old _ _ _ _ at is.heaps (told honest format old _ c r step) current;
   local_realloc = λ name size flags answer o c r named unmodified some. local_realloc_law old _ name _ _ _ o is.heaps (told honest format old _ c r step) named unmodified some;
   local_compact = λ size answer at c r current. local_compact_law old event.after _ _ at is.heaps (told honest format old _ c r step) current;
-  requests = λ command c. any_requests_fewest honest format _ _ _ _ is.loading (asked _ format old event c step).0;
+  requests = λ other. any_requests_fewest honest format _ _ _ _ is.loading (loading_part honest format old event.after event.command event.reply other step).0;
 }

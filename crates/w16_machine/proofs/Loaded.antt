@@ -7,7 +7,7 @@ use Rattle.w16_loading.specs.Answers.{StepOver}
 use Rattle.std.specs.FinMap as finmap
 
 -- A step of loading leaves no local heap in code: where one is left there was one, in an object that was none, and no such object becomes code.
-module _ (honest : Type 0) (format : C.Format) (old new : World) (is : C.IsWorld old) (command : C.LoadingCommand) (reply : Reply) (step : StepOver honest format old.loading command reply new.loading) (rest : new ≡ C.after_loading old new.loading) where
+module _ (honest : Type 0) (format : C.Format) (old new : World) (is : C.IsWorld old) (command : C.Command) (reply : Reply) (step : StepOver honest format old.loading command reply new.loading) (rest : new ≡ C.after_loading old new.loading) where
   still : (p : Option Owned) (r : Option Owned) → (r ≡ p) ⊎ (r ≡ None) → unwrap_or (option_map (λ (o : Owned). o.code) p) false ≡ false → unwrap_or (option_map (λ (o : Owned). o.code) r) false ≡ false
   still p r (inl same) e = ap (λ p. unwrap_or (option_map (λ (o : Owned). o.code) p) false) same ∙ e
   still p r (inr none) e = ap (λ p. unwrap_or (option_map (λ (o : Owned). o.code) p) false) none
@@ -39,7 +39,7 @@ module _ (honest : Type 0) (format : C.Format) (old new : World) (is : C.IsWorld
       turn (Some t) None h e = tt
       turn (Some t) (Some bytes) h e = left t (C.nat_le t.hi (C.length bytes)) (here t h e)
 
-  pub loading_world_kept : C.IsLoadingCommand command → C.IsWorld new
+  pub loading_world_kept : C.IsCommand command → C.IsWorld new
   loading_world_kept known =
       let next : C.IsLoadingWorld new.loading = C.keeps_worlds_law honest format old.loading new.loading command reply is.loading known step in
       record { loading = next; heaps = heaps_after old new is.heaps next.handles rest; uncoded = uncoded }

@@ -3,7 +3,7 @@ use Rattle.w16_machine.proofs
 use proofs.Common as C
 use proofs.Common.{◌≡◌, ℕ, Bool, true, false, ◌+◌, ◌≤◌, ◌<◌, inl, inr, cond, List, length, Option, Some, None, option_map, refl, sym, ap, ◌∙◌, subst, arith, Block, Entry, part, put_part, Object, after_touch, Handles, selector_in, offset_in, FarAnswer, far_fault, after_write, Read, Write}
 use proofs.Common.{Fill, Bytes, Fault, Table, heap_in, bytes_in, World, heap_of, HasSameObjects, but_bytes, HasSamePlaces}
-use proofs.LocalFacts.{IsThere, local_there, local_here}
+use proofs.LocalFacts.{IsThere, local_here}
 use proofs.LocalLeft.{IsLocalAt, left_over, left_is}
 use Rattle.w16_model.specs.{Far.far_read, Far.far_write, Far.FarAnswer.Done}
 use Rattle.std.specs.FinMap as finmap
@@ -27,6 +27,9 @@ module _ (old : Handles) (selector offset : ℕ) where
       turn (Some fault) = record { addresses = refl; attributes = refl; kinds = λ q. refl; sizes = λ q. refl }
       turn None = record { addresses = refl; attributes = refl; kinds = λ q. refl; sizes = λ q. refl }
 
+  abbrev put : List ℕ → Object → Object
+  put slice o = record o { bytes = option_map (λ bytes. put_part bytes place slice) o.bytes }
+
   written_same : (slice : List ℕ) → C.Reached old slot (place + length slice) → HasSamePlaces old (record old { heap = after_touch (after_write old.heap slot place slice) slot })
   written_same slice r = record {
     addresses = refl;
@@ -34,20 +37,20 @@ module _ (old : Handles) (selector offset : ℕ) where
     kinds = λ q. elim (C.cases_eq q slot) [
       | inl e ↦
           ap (λ i. option_map (λ (o : Object). o.kind) (C.object_at (after_write old.heap slot place slice) i)) e
-          ∙ ap (option_map (λ (o : Object). o.kind)) (C.get-update_same old.heap.objects slot (λ (o : Object). record o { bytes = option_map (λ bytes. put_part bytes place slice) o.bytes })
-          ∙ ap (option_map (λ (o : Object). let p : Object = record o { bytes = option_map (λ bytes. put_part bytes place slice) o.bytes } in p)) r.there)
+          ∙ ap (option_map (λ (o : Object). o.kind)) (C.get-update_same old.heap.objects slot (put slice)
+          ∙ ap (option_map (put slice)) r.there)
           ∙ sym (ap (λ i. C.kind_at old i) e ∙ ap (option_map (λ (o : Object). o.kind)) r.there)
-      | inr d ↦ ap (option_map (λ (o : Object). o.kind)) (C.get-update_other old.heap.objects slot (λ (o : Object). record o { bytes = option_map (λ bytes. put_part bytes place slice) o.bytes }) q d)
+      | inr d ↦ ap (option_map (λ (o : Object). o.kind)) (C.get-update_other old.heap.objects slot (put slice) q d)
     ];
     sizes = λ q. elim (C.cases_eq q slot) [
       | inl e ↦
           ap (λ i. option_map length (bytes_in (C.object_at (after_write old.heap slot place slice) i))) e
-          ∙ ap (λ p. option_map length (bytes_in p)) (C.get-update_same old.heap.objects slot (λ (o : Object). record o { bytes = option_map (λ bytes. put_part bytes place slice) o.bytes })
-          ∙ ap (option_map (λ (o : Object). let p : Object = record o { bytes = option_map (λ bytes. put_part bytes place slice) o.bytes } in p)) r.there)
+          ∙ ap (λ p. option_map length (bytes_in p)) (C.get-update_same old.heap.objects slot (put slice)
+          ∙ ap (option_map (put slice)) r.there)
           ∙ ap (λ b. option_map length (option_map (λ (bytes : List ℕ). put_part bytes place slice) b)) r.has
           ∙ ap Some (C.length-put_part r.bytes place slice r.fits)
           ∙ sym (ap (λ i. C.size_at old i) e ∙ ap (option_map length) r.here)
-      | inr d ↦ ap (λ p. option_map length (bytes_in p)) (C.get-update_other old.heap.objects slot (λ (o : Object). record o { bytes = option_map (λ bytes. put_part bytes place slice) o.bytes }) q d)
+      | inr d ↦ ap (λ p. option_map length (bytes_in p)) (C.get-update_other old.heap.objects slot (put slice) q d)
     ];
   }
 
@@ -116,18 +119,3 @@ pub same_heaps : (old new : World) → C.AreLocalHeaps old → (at after : C.Loc
 same_heaps old new is at after was now t =
     let here = local_here old is at was in
     subst (λ t. HasSameObjects (heap_of at) (heap_in t after.bytes)) (sym t) (same_objects at.table here.0.sound.table _ after.bytes here.1 (subst (λ t. t.hi ≤ length after.bytes) t now.inside))
-
-pub local_far_law : C.FarLaw
-local_far_law old new command reply is known step rest = (
-  same_tables,
-  (λ slot at after e f.
-      let was = local_there old slot at e in
-      let now = local_there new slot after f in
-      same_heaps old new is at after was.0 now.0 (same_table at after was.0 now.0 (now.1 ∙ sym was.1))),
-)
-  where
-    same_tables : new.heaps ≡ old.heaps
-    same_tables = tables_stay old new is rest (far_reply _ _ command _ step)
-
-    same_table : (at after : C.LocalHeap) → IsThere old at → IsThere new after → after.slot ≡ at.slot → after.table ≡ at.table
-    same_table at after was now e = let some : ◌≡◌ {A = Option Table} (Some after.table) (Some at.table) = sym now.table ∙ ap (λ m. finmap.get m after.slot) same_tables ∙ ap (finmap.get old.heaps) e ∙ was.table in cc

@@ -31,10 +31,6 @@ none_of : {X : Type 0} (p : Option X) → is_some p ≡ false → p ≡ None
 none_of None e = refl
 none_of (Some x) e = absurd (false≢true (sym e))
 
-neither : (a b : Bool) → (a || b) ≡ false → (a ≡ false) × (b ≡ false)
-neither true b e = absurd (false≢true (sym e))
-neither false b e = (refl, e)
-
 -- An allocation that isn't answered lacks room.
 pub alloc_lacks : (heap : Heap) → IsHeap heap → (id : ℕ) → object_at heap id ≡ None → (n : ℕ) (options : RoomOptions) → is_answered heap id n options ≡ false → C.LacksRoom heap None n options
 alloc_lacks heap is id free n options refused =

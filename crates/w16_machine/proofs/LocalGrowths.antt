@@ -17,7 +17,7 @@ module _ (old : World) (at : C.LocalHeap) (options : C.RoomOptions) (size : ℕ)
   reallocated = C.after_loading old (with_handles old.loading l.handles)
 
   -- this is a step
-  pub growth_step : (honest : Type 0) (format : Format) → Step honest format old (C.OfLoading (OfResizes (GlobalReAlloc l.handle size (growth_flags options)))) (Word l.answer) reallocated
+  pub growth_step : (honest : Type 0) (format : Format) → Step honest format old (OfResizes (GlobalReAlloc l.handle size (growth_flags options))) (Word l.answer) reallocated
   growth_step honest format = (handles_step honest format old.loading l.handles (OfResizes (GlobalReAlloc l.handle size (growth_flags options))) (Word l.answer) tt l.reallocated, refl)
 
   module _ (is : IsWorld old) (there : IsThere old at) (is_size : C.IsLongerSize at size) where

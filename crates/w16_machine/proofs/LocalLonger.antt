@@ -208,6 +208,3 @@ module _ (old new : World) (command : C.LocalCommand) (is : C.AreLocalHeaps old)
         (pinned_law old.loading.handles l.handles (ReAllocs l.handle r.size (growth_flags (local_options r.flags))) (Word l.answer) slot is.handles l.reallocated pinned (λ may. absurd (false≢true (sym (held_flags (local_options r.flags) l.handle r.size) ∙ may))));
     heaps = heap_left;
   }
-
-pub growth_law : C.GrowthLaw
-growth_law old new command is r = leaves_longer old new _ is r

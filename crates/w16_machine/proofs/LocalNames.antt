@@ -170,14 +170,3 @@ module _ (heap : Heap) (is : C.IsHeap heap) where
 
 pub names_law : C.NamesLaw
 names_law heap name id is grain = ((has_name _ is grain _ id, name_has _ is grain _ id), (at_place _ is _ id, place_at _ is _ id))
-
-pub named_law : C.NamedLaw
-named_law heap id is named = turn _ refl (named id)
-  where
-    by_kind : (o : Object) → object_at heap id ≡ Some o → (f : Bool) → is_fixed o.kind ≡ f → is_some (cond f (finmap.get heap.places id) (Some (4 * id + 2))) ≡ true
-    by_kind o there true f = is.at_bytes id ∙ ap (λ p. is_some (bytes_in p)) there ∙ subst (λ p. C.IfSome p (λ o. is_fixed o.kind ≡ true → is_some o.bytes ≡ true)) there (named id) f
-    by_kind o there false f = refl
-
-    turn : (p : Option Object) → object_at heap id ≡ p → C.IfSome p (λ o. is_fixed o.kind ≡ true → is_some o.bytes ≡ true) → is_some (elim p as (λ _. Option ℕ) [ None ↦ None | Some o ↦ name_of heap id o ]) ≡ is_some p
-    turn None there h = refl
-    turn (Some o) there h = by_kind o there _ refl

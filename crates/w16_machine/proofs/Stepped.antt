@@ -1,6 +1,6 @@
 -- Steps that read no file: calls on handles, which leave the rest of the world, and far accesses that fetch nothing.
 use Rattle.w16_machine.proofs.Common as C
-use Rattle.w16_machine.proofs.Common.{false≢true, inl, inr, ◌≡◌, ℕ, false, refl, sym, ap, ◌∙◌, subst, arith, FarAnswer, FarCommand, Read, Write, Fill, Handles, LoadingCommand, OfFar, gives, reply_of_far, Format, LoadingWorld, with_handles, Reply, Done}
+use Rattle.w16_machine.proofs.Common.{false≢true, inl, inr, ◌≡◌, ℕ, false, refl, sym, ap, ◌∙◌, subst, arith, FarAnswer, FarCommand, Read, Write, Fill, Handles, Command, OfFar, gives, reply_of_far, Format, LoadingWorld, with_handles, Reply, Done}
 use Rattle.w16_loading.proofs.Cases.{by_bool}
 use Rattle.w16_loading.specs.Families.{HandleStep, FarStep, Loading, access_of}
 use Rattle.w16_loading.specs.{Fetch.Fetching, Fill.Fills, Answers.FetchesFrom, Answers.LoadsFrom, Answers.StepOver, Answers.told, Replies.Reply.Bytes, Replies.Reply.Fault, Law.far_reads_file}
@@ -52,17 +52,23 @@ far_step fetches old next command reply none s =
     by (Write pointer bytes) answer e s = (e ∙ ap reply_of_far s.0, ap (with_handles old) s.1)
     by (Fill pointer count byte) answer e s = (e ∙ ap reply_of_far s.0, ap (with_handles old) s.1)
 
+-- each command but one on local heaps makes a step of loading
+pub loading_part : (honest : Type 0) (format : Format) (old new : C.World) (command : Command) (reply : Reply) → (C.IsOfLocals command → ⊥) → C.Step honest format old command reply new → C.LoadingStep honest format old command reply new
+loading_part honest format old new (C.OfLocals command) reply other step = absurd (other tt)
+loading_part honest format old new command reply other step = step
+
 -- what is done on handles alone, and fetches nothing, is a step
-abbrev pub FetchesNothing : LoadingWorld → LoadingCommand → Type 0
+abbrev pub FetchesNothing : LoadingWorld → Command → Type 0
 FetchesNothing old (OfFar command) = far_reads_file old command ≡ false
 FetchesNothing old command = Unit {0}
 
-pub handles_step : (honest : Type 0) (format : Format) (old : LoadingWorld) (next : Handles) (command : LoadingCommand) (reply : Reply) → FetchesNothing old command → C.OnHandles old.handles command reply next → StepOver honest format old command reply (with_handles old next)
+pub handles_step : (honest : Type 0) (format : Format) (old : LoadingWorld) (next : Handles) (command : Command) (reply : Reply) → FetchesNothing old command → C.OnHandles old.handles command reply next → StepOver honest format old command reply (with_handles old next)
 handles_step honest format old next command reply none s = record { counted = omega arith; files = refl; step = turn _ none s }
   where
-    turn : (command : LoadingCommand) → FetchesNothing old command → C.OnHandles old.handles command reply next → C.FamilyStep (fetching honest format old old) (loading honest format old old) old command reply (with_handles old next)
+    turn : (command : Command) → FetchesNothing old command → C.OnHandles old.handles command reply next → C.FamilyStep (fetching honest format old old) (loading honest format old old) old command reply (with_handles old next)
     turn (C.OfHandles command) none s = (next, s, refl)
     turn (C.OfResizes command) none s = (next, s, refl)
     turn (OfFar command) none s = far_step (fetching _ format old old) old _ _ _ none s
     turn (C.OfModules command) none s = absurd s
     turn (C.OfResources command) none s = absurd s
+    turn (C.OfLocals command) none s = absurd s

@@ -1,9 +1,9 @@
--- Each step, and so each run, keeps what holds of every world of the machine.
+-- Each step keeps what holds of every world of the machine.
 use Rattle.w16_machine.proofs
 use proofs.Common as C
-use proofs.Common.{◌≡◌, false, sym, subst, World, Step, OfLoading}
+use proofs.Common.{◌≡◌, false, sym, subst, World}
 use proofs.LocalModules.{local_files_kept, local_world_kept}
-use proofs.{Discards.step_fewest, Runs.run_each, Loaded.loading_world_kept}
+use proofs.{Loaded.loading_world_kept}
 use Rattle.w16_loading.proofs.Begun.{empty_law as empty_loading_law}
 
 pub empty_world_law : C.EmptyLaw
@@ -23,25 +23,12 @@ empty_world_law format memory slots files failures few = (
     w = C.empty_world memory slots files failures
 
 pub world_law : (honest : Type 0) → C.WorldLaw honest
-world_law honest format old new (OfLoading command) reply is known step = loading_world_kept honest format old new is command reply step.0 step.1 known
 world_law honest format old new (C.OfLocals command) reply is known step = local_world_kept old new command reply is step
+world_law honest format old new command reply is known step = loading_world_kept honest format old new is command reply step.0 step.1 known
 
 pub files_law : (honest : Type 0) → C.FilesLaw honest
-files_law honest format old new (OfLoading command) reply truly is known step = (
-  world_law honest format old new (OfLoading _) reply is.0 known step,
+files_law honest format old new (C.OfLocals command) reply truly is known step = (local_world_kept old new command reply is.0 step, local_files_kept old new command reply is.0 step _ is.1)
+files_law honest format old new command reply truly is known step = (
+  world_law honest format old new command reply is.0 known step,
   C.code_law honest _ _ _ command reply truly is.0.loading is.1 step.0,
 )
-files_law honest format old new (C.OfLocals command) reply truly is known step = (local_world_kept old new command reply is.0 step, local_files_kept old new command reply is.0 step _ is.1)
-
--- Runs.
-
-pub run_world_law : (honest : Type 0) → C.RunWorldLaw honest
-run_world_law honest format old new events is known run = (run_each _ _ (λ now event. Unit {0}) (λ now event is known step. (tt, world_law honest format now _ _ _ is known step)) old new _ is known run).1
-
-pub run_files_law : (honest : Type 0) → C.RunFilesLaw honest
-run_files_law honest format old new events truly is known run =
-    (run_each _ _ (λ now event. Unit {0}) (λ now event is known step. (tt, files_law honest format now _ _ _ truly is known step)) old new _ is known run).1
-
-pub fewest_law : (honest : Type 0) → C.FewestLaw honest
-fewest_law honest format old new events is known run =
-    (run_each _ _ _ (λ now event is known step. (step_fewest honest format now _ is step, world_law honest format now _ _ _ is known step)) old new _ is known run).0

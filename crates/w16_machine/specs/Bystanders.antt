@@ -1,47 +1,42 @@
--- What steps, and so runs, leave of objects that they aren't about, and of DS.
+-- What steps leave of objects that they aren't about, and of DS.
 use Rattle.w16_machine.specs
-use Rattle.std.specs.Prelude.{◌≡◌, ℕ, ◌⊎◌, Bool, true, false, is_some, List, All, Some, None, option_map, IsSomeAnd}
+use Rattle.std.specs.Prelude.{◌≡◌, ℕ, ◌⊎◌, Bool, true, false, is_some, Some, None, option_map, IsSomeAnd}
 use Rattle.w16_model.specs.{declared.Kind.TheVariants.Discardable, CallLaws.IsKeptOrDiscarded, Heap.Object, Heap.object_at, Heap.is_pinned_object, Law.StandsStill}
 use Rattle.w16_loading.specs.{Bystanders.IsStepAbout, Bystanders.IsReleased, Bystanders.step_may_move_own, File.Format, Replies.Reply}
 use specs.LocalLaw.{IsLeftByGrowth, IsNamedBy, IsObjectKept, asks_for_room, but_bytes, may_grow, may_move_named}
-use specs.Machine.{Command, Event, Step, Run}
-use specs.Machine.Command.{OfLoading, OfLocals}
-use specs.{World.World, Law.IsWorld, Local.LocalHeap, Local.heap_of, Local.local_in, Local.current_heap, LocalCalls.LocalCommand.DS, Law.EachStep, Law.IsCommand}
+use specs.Machine.{Step}
+use Rattle.w16_loading.specs.Families.{Command}
+use Rattle.w16_loading.specs.Families.Command.{OfLocals}
+use specs.{World.World, Law.IsWorld, Local.LocalHeap, Local.heap_of, Local.local_in, Local.current_heap}
+use Rattle.w16_loading.specs.Families.LocalCommand.{DS}
 
 -- Objects of the global heap.
 
 -- a step is about the one whose handle or selector it names; a local call names none
 abbrev pub IsCommandAbout : World → Command → ℕ → Type 0
-IsCommandAbout old (OfLoading command) q = IsStepAbout old.loading.handles command q
-IsCommandAbout old (OfLocals command) q = ⊥
+IsCommandAbout old command q = IsStepAbout old.loading.handles command q
 
 -- it is gone with its module or resource
 abbrev pub IsGone : World → Command → World → ℕ → Type 0
-IsGone old (OfLoading command) new q = IsReleased command old.loading new.loading q
-IsGone old (OfLocals command) new q = ⊥
+IsGone old command new q = IsReleased command old.loading new.loading q
 
 -- It is as it was; or it was discardable and not locked, and has lost its bytes alone; or it is gone with its module or resource. A local call
 -- takes no bytes, and changes those of one local heap, unless that grows: then it gets more, and the others are left as by any call for room.
 abbrev pub IsSpared : World → Command → World → ℕ → Type 0
-IsSpared old (OfLoading command) new q = IsKeptOrDiscarded old.loading.handles.heap new.loading.handles.heap q ⊎ IsGone old (OfLoading command) new q
 IsSpared old (OfLocals command) new q = IsObjectKept old new q ⊎ ((may_grow command ≡ true) × IsLeftByGrowth old new q)
-
--- whether a step may move a fixed or locked object that it is about, or free it
-abbrev pub command_may_move_own : Command → Bool
-command_may_move_own (OfLoading command) = step_may_move_own command
-command_may_move_own (OfLocals command) = false
+IsSpared old command new q = IsKeptOrDiscarded old.loading.handles.heap new.loading.handles.heap q ⊎ IsGone old command new q
 
 -- Objects of local heaps.
 
 -- a local call is about the one that it names in the current heap
 abbrev pub IsLocalAbout : World → Command → LocalHeap → ℕ → Type 0
-IsLocalAbout old (OfLoading command) at q = ⊥
 IsLocalAbout old (OfLocals command) at q = (current_heap old ≡ Some at) × IsNamedBy command (heap_of at) q
+IsLocalAbout old command at q = ⊥
 
 -- whether it asks for room in the current heap
 abbrev pub asks_in_heap : Command → Bool
-asks_in_heap (OfLoading command) = false
 asks_in_heap (OfLocals command) = asks_for_room command
+asks_in_heap command = false
 
 -- it has its kind, its locks and as many bytes; or it was discardable and not locked, and has lost its bytes to a call for room in its heap
 abbrev pub IsLocalSpared : World → Command → LocalHeap → LocalHeap → ℕ → Object → Type 0
@@ -51,8 +46,8 @@ IsLocalSpared old command at after q o =
 
 -- whether a step may move a fixed or locked local object that it is about, or free it
 abbrev pub local_may_move_own : Command → Bool
-local_may_move_own (OfLoading command) = false
 local_may_move_own (OfLocals command) = may_move_named command
+local_may_move_own command = false
 
 -- What a step spares. A local heap that goes with its segment is not among these: that has laws of its own.
 
@@ -66,7 +61,7 @@ pub record SparesBytes (old : World) (command : Command) (new : World) : Type 0 
 -- A fixed or locked object keeps its address, or its near pointer, except by its own reallocation and freeing. What its last unlock has made
 -- loose is neither from then on.
 pub record KeepsAddresses (old : World) (command : Command) (new : World) : Type 0 where
-  pub objects : (q : ℕ) → IsSomeAnd (object_at old.loading.handles.heap q) (λ o. is_pinned_object o ≡ true) → (command_may_move_own command ≡ true → IsCommandAbout old command q → ⊥)
+  pub objects : (q : ℕ) → IsSomeAnd (object_at old.loading.handles.heap q) (λ o. is_pinned_object o ≡ true) → (step_may_move_own command ≡ true → IsCommandAbout old command q → ⊥)
       → StandsStill old.loading.handles.heap new.loading.handles.heap q ⊎ IsGone old command new q
   pub local_objects : (slot : ℕ) (at after : LocalHeap) (q : ℕ) (o : Object) → local_in old slot ≡ Some at → local_in new slot ≡ Some after → object_at (heap_of at) q ≡ Some o
       → is_pinned_object o ≡ true → (local_may_move_own command ≡ true → IsLocalAbout old command at q → ⊥) → StandsStill (heap_of at) (heap_of after) q
@@ -80,13 +75,6 @@ pub record Spares (old : World) (command : Command) (new : World) : Type 0 where
   pub bytes : SparesBytes old command new
   pub addresses : KeepsAddresses old command new
 
--- The laws. Each step spares these, whatever the store answers,
+-- The law: each step spares these, whatever the store answers.
 abbrev pub StepSparesLaw : (honest : Type 0) → Type 0
 StepSparesLaw honest = (format : Format) (old new : World) (command : Command) (reply : Reply) → IsWorld old → Step honest format old command reply new → Spares old command new
-
--- and so does each step of a run.
-abbrev pub AllSpare : World → List Event → Type 0
-AllSpare old events = EachStep (λ old event. Spares old event.command event.after) old events
-
-abbrev pub RunSparesLaw : (honest : Type 0) → Type 0
-RunSparesLaw honest = (format : Format) (old new : World) (events : List Event) → IsWorld old → All (λ e. IsCommand e.command) events → Run (Step honest format) old events new → AllSpare old events

@@ -1,28 +1,28 @@
 -- What whole runs promise of discards, read at each step: a call for room discards as few objects as it can, of the global heap or of a local
 -- one, and is refused for room only where none could be made.
 use Rattle.w16_machine.specs
-use Rattle.std.specs.Prelude.{◌≡◌, ℕ, ◌<◌, List, false, Some, All}
+use Rattle.std.specs.Prelude.{◌≡◌, ℕ, ◌<◌, List, false, Some}
 use Rattle.w16_model.specs.{Calls.has_flag, Calls.HandleCommand.GlobalAlloc, Calls.HandleCommand.GlobalCompact, Fewest.CompactsFewest}
-use Rattle.w16_loading.specs.{Families.LoadingCommand, Families.LoadingCommand.OfHandles, Families.LoadingCommand.OfResizes, Fewest.RequestsFewest, Replies.Reply.Word, Replies.Reply.Dword, Resizes.ResizeCommand.GlobalReAlloc, File.Format}
+use Rattle.w16_loading.specs.{Families.Command.OfHandles, Families.Command.OfResizes, Fewest.RequestsFewest, Replies.Reply.Word, Replies.Reply.Dword, Resizes.ResizeCommand.GlobalReAlloc}
 use specs.Local.{LocalHeap, LocalObject, heap_of, current_heap, object_named}
-use specs.LocalCalls.LocalCommand.{LocalAlloc, LocalReAlloc, LocalCompact}
+use Rattle.w16_loading.specs.Families.LocalCommand.{LocalAlloc, LocalReAlloc, LocalCompact}
 use specs.LocalFewest.{Left, AllocFewest, ReallocFewest}
-use specs.Machine.Command.{OfLoading, OfLocals}
-use specs.{declared.local.TheConstants.LMEM_MODIFY, World.World, Law.EachStep, Machine.Event, Law.IsCommand, Machine.Step, Machine.Run, Law.IsWorld}
+use Rattle.w16_loading.specs.Families.Command.{OfLocals}
+use specs.{declared.local.TheConstants.LMEM_MODIFY, World.World, Law.EachStep, Law.IsOfLocals, Machine.Event}
 use Rattle.w16_model.specs.Fewest as global
 use Rattle.w16_model.specs.CallLaws as resizes
 
 -- The calls on the global heap.
 abbrev pub GlobalAllocFewest : World → Event → Type 0
-GlobalAllocFewest old event = (flags size handle : ℕ) → event.command ≡ OfLoading (OfHandles (GlobalAlloc flags size)) → event.reply ≡ Word handle
+GlobalAllocFewest old event = (flags size handle : ℕ) → event.command ≡ OfHandles (GlobalAlloc flags size) → event.reply ≡ Word handle
     → global.AllocFewest old.loading.handles flags size handle event.after.loading.handles
 
 abbrev pub GlobalReAllocFewest : World → Event → Type 0
-GlobalReAllocFewest old event = (handle size flags answer : ℕ) → event.command ≡ OfLoading (OfResizes (GlobalReAlloc handle size flags)) → event.reply ≡ Word answer
+GlobalReAllocFewest old event = (handle size flags answer : ℕ) → event.command ≡ OfResizes (GlobalReAlloc handle size flags) → event.reply ≡ Word answer
     → resizes.ReallocFewest old.loading.handles handle size flags answer event.after.loading.handles
 
 abbrev pub GlobalCompactFewest : World → Event → Type 0
-GlobalCompactFewest old event = (size answer : ℕ) → event.command ≡ OfLoading (OfHandles (GlobalCompact size)) → event.reply ≡ Dword answer
+GlobalCompactFewest old event = (size answer : ℕ) → event.command ≡ OfHandles (GlobalCompact size) → event.reply ≡ Dword answer
     → CompactsFewest old.loading.handles.heap size answer event.after.loading.handles.heap
 
 -- An allocation in the heap that DS names has discarded as few of its objects as it can, or there was no room in it and nothing changed.
@@ -40,7 +40,7 @@ LocalCompactFewest old event = (size answer : ℕ) (at : LocalHeap) → event.co
 
 -- So has each request of a load, and that of a fetch.
 abbrev pub LoadingFewest : World → Event → Type 0
-LoadingFewest old event = (command : LoadingCommand) → event.command ≡ OfLoading command → RequestsFewest old.loading command event.reply event.after.loading
+LoadingFewest old event = (IsOfLocals event.command → ⊥) → RequestsFewest old.loading event.command event.reply event.after.loading
 
 pub record IsFewest (old : World) (event : Event) : Type 0 where
   pub alloc : GlobalAllocFewest old event
@@ -54,7 +54,3 @@ pub record IsFewest (old : World) (event : Event) : Type 0 where
 -- each step is such
 abbrev pub AreFewest : World → List Event → Type 0
 AreFewest old events = EachStep IsFewest old events
-
--- In every run each call for room discards as few objects as it can.
-abbrev pub FewestLaw : (honest : Type 0) → Type 0
-FewestLaw honest = (format : Format) (old new : World) (events : List Event) → IsWorld old → All (λ e. IsCommand e.command) events → Run (Step honest format) old events new → AreFewest old events

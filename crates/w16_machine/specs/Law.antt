@@ -1,14 +1,14 @@
--- What holds of every world, and the laws of steps and runs of the whole machine. Each law is the contract of a function of `w16_laws`.
+-- What holds of every world, and the laws of steps of the whole machine. Each law is the contract of a function of `w16_laws`.
 use Rattle.w16_machine.specs
-use Rattle.std.specs.Prelude.{◌≡◌, ◌≢◌, ℕ, ◌+◌, ◌≤◌, ◌⊎◌, false, List, length, All, Some, IfSome, true, is_some, IsSomeAnd, [], ◌∷◌}
+use Rattle.std.specs.Prelude.{◌≡◌, ◌≢◌, ℕ, ◌+◌, ◌≤◌, ◌⊎◌, false, List, length, Some, IfSome, true, is_some, IsSomeAnd, [], ◌∷◌}
 use Rattle.w16_model.specs.{declared.TheConstants.MOST_SLOTS, Heap.Heap, Heap.bytes_at, Owned.is_code, declared.Item.Item, Handles.handle_of, Walk.IsWalk, Heap.object_at, Heap.is_fixed, Table.Table, Table.heap_in, Law.AreHandles, Handles.Handles}
-use Rattle.w16_loading.specs.Law.{IsLoadingWorld, IsOfFiles, empty_loading_world, IsLoadingCommand, FarReplies}
+use Rattle.w16_loading.specs.Law.{IsLoadingWorld, IsOfFiles, empty_loading_world, IsCommand, FarReplies}
 use Rattle.w16_loading.specs.Replies.{Reply, HandleReplies, ResizeReplies}
-use Rattle.w16_loading.specs.Families.LoadingCommand.{OfHandles, OfResizes, OfFar}
-use Rattle.w16_loading.specs.{File.Format, Families.LoadingCommand}
+use Rattle.w16_loading.specs.Families.Command.{OfHandles, OfResizes, OfFar, OfLocals}
+use Rattle.w16_loading.specs.{File.Format, Families.Command}
 use specs.Local.{LocalHeap, heap_of, local_in, IsLocalTable, segment_bytes}
-use specs.Machine.{Command, Step, Event, Run}
-use specs.{World.World, Machine.Command.OfLoading, Machine.Command.OfLocals}
+use specs.Machine.{Step, Event}
+use specs.{World.World}
 use Rattle.std.specs.FinMap as finmap
 
 -- the world over a memory and a store, with so many slots, in which nothing is allocated and nothing loaded
@@ -32,13 +32,13 @@ pub record AreLocalHeaps (w : World) : Type 0 where
   pub handles : AreHandles w.loading.handles
   pub heaps : (slot : ℕ) → IfSome (finmap.get w.heaps slot) (λ t. IsSomeAnd (segment_bytes w slot) (IsLocalIn t))
 
--- a command's numbers are in their range, where they have one
-abbrev pub IsCommand : Command → Type 0
-IsCommand (OfLoading command) = IsLoadingCommand command
-IsCommand (OfLocals command) = Unit {0}
+-- the calls on local heaps
+abbrev pub IsOfLocals : Command → Type 0
+IsOfLocals (OfLocals command) = Unit {0}
+IsOfLocals command = ⊥
 
 -- What a command does to handles alone, where it does nothing else: a call on them, or a far access that fetches nothing.
-abbrev pub OnHandles : Handles → LoadingCommand → Reply → Handles → Type 0
+abbrev pub OnHandles : Handles → Command → Reply → Handles → Type 0
 OnHandles old (OfHandles command) reply new = HandleReplies old command reply new
 OnHandles old (OfResizes command) reply new = ResizeReplies old command reply new
 OnHandles old (OfFar command) reply new = FarReplies old command reply new
@@ -88,10 +88,3 @@ WorldLaw honest = (format : Format) (old new : World) (command : Command) (reply
 -- and where the store is honest code still reads as its file's relocated bytes.
 abbrev pub FilesLaw : (honest : Type 0) → Type 0
 FilesLaw honest = (format : Format) (old new : World) (command : Command) (reply : Reply) → honest → IsWorldOfFiles format old → IsCommand command → Step honest format old command reply new → IsWorldOfFiles format new
-
--- So do whole runs.
-abbrev pub RunWorldLaw : (honest : Type 0) → Type 0
-RunWorldLaw honest = (format : Format) (old new : World) (events : List Event) → IsWorld old → All (λ e. IsCommand e.command) events → Run (Step honest format) old events new → IsWorld new
-
-abbrev pub RunFilesLaw : (honest : Type 0) → Type 0
-RunFilesLaw honest = (format : Format) (old new : World) (events : List Event) → honest → IsWorldOfFiles format old → All (λ e. IsCommand e.command) events → Run (Step honest format) old events new → IsWorldOfFiles format new

@@ -9,24 +9,10 @@ use Rattle.w16_model.specs.{declared.Kind.Kind, declared.Refusal.Refusal, declar
 use specs.declared.local.TheConstants.{LMEM_MOVEABLE, LMEM_NOCOMPACT, LMEM_NODISCARD, LMEM_ZEROINIT, LMEM_MODIFY, LMEM_DISCARDABLE, LMEM_DISCARDED}
 use specs.Local.{LocalHeap, LocalObject, Stays, Becomes, Acts, IsFreeEntry, IsLowestFree, heap_of, current_heap, object_named, name_at, id_at, rounded_up, beginning, new_table, with_table}
 use specs.{World.World, LocalGrowth.OnceLonger}
-use Rattle.w16_loading.specs.{Replies.Reply, Replies.Reply.Word, Replies.Reply.Done}
+use Rattle.w16_loading.specs.{Replies.Reply, Replies.Reply.Word, Replies.Reply.Done, Families.LocalCommand}
+use Rattle.w16_loading.specs.Families.LocalCommand.{LocalInit, LocalAlloc, LocalReAlloc, LocalDiscard, LocalFree, LocalLock, LocalUnlock, LocalSize, LocalFlags, LocalHandle, LocalCompact, DS}
 use Rattle.std.specs.FinMap as finmap
 use Rattle.w16_model.specs.declared.Refusal.TheVariants as refusals
-
--- a call on local heaps, with its arguments as numbers
-pub data LocalCommand : Type 0 where
-  LocalInit : (selector start end : ℕ) → LocalCommand
-  LocalAlloc : (flags size : ℕ) → LocalCommand
-  LocalReAlloc : (name size flags : ℕ) → LocalCommand
-  LocalDiscard : (name : ℕ) → LocalCommand
-  LocalFree : (name : ℕ) → LocalCommand
-  LocalLock : (name : ℕ) → LocalCommand
-  LocalUnlock : (name : ℕ) → LocalCommand
-  LocalSize : (name : ℕ) → LocalCommand
-  LocalFlags : (name : ℕ) → LocalCommand
-  LocalHandle : (pointer : ℕ) → LocalCommand
-  LocalCompact : (size : ℕ) → LocalCommand
-  DS : (selector : ℕ) → LocalCommand
 
 -- LocalInit: 1, and a heap without objects begins in the segment; 0 where the selector is bad, its object has no bytes or a local heap
 -- already or is code, or the range isn't sound.

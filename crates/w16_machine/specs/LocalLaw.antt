@@ -1,38 +1,21 @@
--- The laws that show the definitions of local heaps to be the right ones. Each is the contract of a function of `w16_laws`.
+-- The laws that show the definitions of local heaps to be the right ones, where other proofs stand on them. Each is the contract of a function of
+-- `w16_laws`, which also has those on which nothing stands.
 use Rattle.w16_machine.specs
-use Rattle.std.specs.Prelude.{Bool, false, ◌≡◌, ◌≢◌, ℕ, ◌+◌, ◌<◌, ◌≤◌, ◌⊎◌, ◌↔◌, ◌==◌, ◌&&◌, ◌||◌, not, true, List, length, take, All, Option, Some, None, is_some, option_map, IsSomeAnd}
+use Rattle.std.specs.Prelude.{Bool, false, ◌≡◌, ◌≢◌, ℕ, ◌+◌, ◌<◌, ◌≤◌, ◌⊎◌, ◌↔◌, ◌==◌, ◌&&◌, ◌||◌, not, true, List, length, take, Option, Some, None, is_some, option_map, IsSomeAnd}
 use Rattle.w16_model.specs.Heap.{Heap, Object, IsHeap, IsMultiple, object_at, bytes_at, is_pinned_object}
-use Rattle.w16_model.specs.{declared.Span.Span, declared.Kind.Kind, declared.Kind.TheVariants.Discardable, Law.StandsStill, Calls.has_flag, declared.RoomOptions.RoomOptions, CallLaws.IsKeptOrDiscarded, CallLaws.OnlyLeave, CallLaws.OthersStand, Far.FarCommand, Law.IsFarCommand}
+use Rattle.w16_model.specs.{declared.Span.Span, declared.Kind.Kind, declared.Kind.TheVariants.Discardable, Law.StandsStill, Calls.has_flag, CallLaws.IsKeptOrDiscarded, CallLaws.OnlyLeave}
 use Rattle.w16_model.specs.{Owned.is_code, Handles.slot_of_selector, Table.Table, Table.IsSameOutside, Table.heap_in, Law.empty_heap}
-use specs.declared.local.TheConstants.{LOCAL_GRAIN, LOCAL_ENTRIES, LAST_LOCAL_END, LMEM_MOVEABLE, LMEM_NOCOMPACT, LMEM_NODISCARD, LMEM_ZEROINIT, LMEM_MODIFY, LMEM_DISCARDABLE, LMEM_DISCARDED}
+use specs.declared.local.TheConstants.{LOCAL_GRAIN, LMEM_NOCOMPACT, LMEM_MODIFY}
 use specs.World.{World}
-use specs.Local.{LocalHeap, Beginning, IsLowestFree, segment_bytes, heap_of, local_in, current_heap, name_at, id_named, id_at, beginning, selector_or_ds, new_table, left_in}
-use specs.Law.{AreLocalHeaps, AreNamed}
-use specs.LocalGrowth.{IsGrowth, IsKeptShort, IsLongerSize, Lengthens, longer, with_longer}
-use specs.LocalCalls.{LocalCommand, LocalStep, MakesObject, IsRefusedAlloc, HasNoRoom, is_absent_asked, local_options}
-use specs.LocalCalls.LocalCommand.{LocalInit, LocalAlloc, LocalCompact, LocalReAlloc, LocalDiscard, LocalFree, LocalLock, LocalUnlock, LocalSize, LocalFlags, LocalHandle}
-use specs.Machine.{Command, Step, Event, Run, after_loading}
-use specs.Machine.Command.{OfLoading, OfLocals}
-use Rattle.w16_loading.specs.{File.Format, Modules.with_handles, Families.LoadingCommand, Replies.Reply, Law.FarReplies, Replies.Reply.Word}
+use specs.Local.{LocalHeap, Beginning, segment_bytes, heap_of, local_in, current_heap, name_at, id_named, id_at, beginning, selector_or_ds, new_table, left_in}
+use specs.Law.{AreLocalHeaps}
+use specs.LocalGrowth.{IsLongerSize, Lengthens, longer, with_longer}
+use specs.LocalCalls.{LocalStep, is_absent_asked, local_options}
+use Rattle.w16_loading.specs.Families.{LocalCommand}
+use Rattle.w16_loading.specs.Families.LocalCommand.{LocalAlloc, LocalCompact, LocalReAlloc, LocalDiscard, LocalFree, LocalLock, LocalUnlock, LocalSize, LocalFlags}
+use specs.Machine.{LoadingStep}
+use Rattle.w16_loading.specs.{File.Format, Modules.with_handles, Families.Command, Replies.Reply}
 use Rattle.std.specs.FinMap as finmap
-
--- The figures.
-
--- the figures of the profile
-pub record AreFigures : Type 0 where
-  pub grain : LOCAL_GRAIN ≡ 4
-  pub entries : LOCAL_ENTRIES ≡ 1024
-  pub end : LAST_LOCAL_END ≡ 65536
-
--- the flags of LocalAlloc, LocalReAlloc and LocalFlags, as the manual has them
-pub record AreFlags : Type 0 where
-  pub moveable : LMEM_MOVEABLE ≡ 2
-  pub nocompact : LMEM_NOCOMPACT ≡ 16
-  pub nodiscard : LMEM_NODISCARD ≡ 32
-  pub zeroinit : LMEM_ZEROINIT ≡ 64
-  pub modify : LMEM_MODIFY ≡ 128
-  pub discardable : LMEM_DISCARDABLE ≡ 3840
-  pub discarded : LMEM_DISCARDED ≡ 16384
 
 -- Names.
 
@@ -40,10 +23,6 @@ pub record AreFlags : Type 0 where
 abbrev pub NamesLaw : Type 0
 NamesLaw = (heap : Heap) (name id : ℕ) → IsHeap heap → heap.grain ≡ LOCAL_GRAIN
     → ((id_named heap name ≡ Some id) ↔ (name_at heap id ≡ Some name)) × ((id_at heap name ≡ Some id) ↔ (finmap.get heap.places id ≡ Some name))
-
--- each object has a name
-abbrev pub NamedLaw : Type 0
-NamedLaw = (heap : Heap) (id : ℕ) → IsHeap heap → AreNamed heap → is_some (name_at heap id) ≡ is_some (object_at heap id)
 
 -- The beginning of a local heap.
 
@@ -157,7 +136,7 @@ IsHeapLeft old new slot =
     (finmap.get new.heaps slot ≡ finmap.get (left_in new.loading.handles.heap old.heaps) slot)
     ⊎ IsSomeAnd (current_heap old) (λ at. (at.slot ≡ slot) × IsSomeAnd (finmap.get new.heaps slot) (λ t. (t.lo ≡ at.table.lo) × (at.table.hi < t.hi) × IsSomeAnd (segment_bytes new slot) (λ bytes. t.hi ≡ length bytes)))
 
--- So is a call for which a heap has grown: it leaves the other objects and heaps so, and a fixed or locked object its address, the segment's too.
+-- What a call leaves for which a heap has grown: the other objects and heaps as they were, and a fixed or locked object its address, the segment's too.
 -- Nothing but handles changes, and of them neither slots nor attributes nor the number of bytes moved; from the order of use only what was discarded
 -- leaves, so the segment keeps its place there.
 pub record LeavesLonger (old new : World) : Type 0 where
@@ -169,21 +148,6 @@ pub record LeavesLonger (old new : World) : Type 0 where
   pub objects : (slot : ℕ) → is_some (object_at old.loading.handles.heap slot) ≡ true → IsLeftByGrowth old new slot
   pub pinned : (slot : ℕ) → IsSomeAnd (object_at old.loading.handles.heap slot) (λ o. is_pinned_object o ≡ true) → StandsStill old.loading.handles.heap new.loading.handles.heap slot
   pub heaps : (slot : ℕ) → IsHeapLeft old new slot
-
-abbrev pub GrowthLaw : Type 0
-GrowthLaw = (old new : World) (command : LocalCommand) → AreLocalHeaps old → KeepsRestLonger old command new → LeavesLonger old new
-
--- the calls that only tell; LocalCompact only tells where it is asked for 0 bytes
-abbrev pub only_tells : LocalCommand → Bool
-only_tells (LocalSize name) = true
-only_tells (LocalFlags name) = true
-only_tells (LocalHandle pointer) = true
-only_tells (LocalCompact size) = size == 0
-only_tells command = false
-
--- these change nothing
-abbrev pub QueriesLaw : Type 0
-QueriesLaw = (old new : World) (command : LocalCommand) (reply : Reply) → only_tells command ≡ true → LocalStep old command reply new → new ≡ old
 
 -- Inside the local heap.
 
@@ -225,30 +189,9 @@ PinnedLaw = (old new : World) (command : LocalCommand) (reply : Reply) (at after
     → (may_move_named command ≡ true → (name : ℕ) → named_by command ≡ Some name → name_at (heap_of at) q ≢ Some name)
     → StandsStill (heap_of at) (heap_of after) q
 
--- A call that asks for no room moves no object, named or not: what has a near pointer afterwards had the same before.
-abbrev pub PlacesLaw : Type 0
-PlacesLaw = (old new : World) (command : LocalCommand) (reply : Reply) (at after : LocalHeap) (q pointer : ℕ) → LocalStep old command reply new
-    → current_heap old ≡ Some at → local_in new at.slot ≡ Some after → asks_for_room command ≡ false
-    → finmap.get (heap_of after).places q ≡ Some pointer → finmap.get (heap_of at).places q ≡ Some pointer
-
 -- the object that a call names in the current heap
 abbrev pub IsNamedBy : LocalCommand → Heap → ℕ → Type 0
 IsNamedBy command heap q = (name : ℕ) × (named_by command ≡ Some name) × (name_at heap q ≡ Some name)
-
--- In the heap's order of use all others that stay stand as they did.
-abbrev pub OrderLaw : Type 0
-OrderLaw = (old new : World) (command : LocalCommand) (reply : Reply) (at after : LocalHeap) → AreLocalHeaps old → LocalStep old command reply new
-    → current_heap old ≡ Some at → local_in new at.slot ≡ Some after → OthersStand (IsNamedBy command (heap_of at)) (λ id. id) (heap_of at) (heap_of after)
-
--- an allocation that is answered in the heap as it is isn't refused, and doesn't lack room
-abbrev pub OutcomeLaw : Type 0
-OutcomeLaw = (old new : World) (at : LocalHeap) (flags size id answer : ℕ) → IsHeap (heap_of at) → IsLowestFree (heap_of at) id → MakesObject old at flags size id answer new
-    → IsRefusedAlloc (heap_of at) flags size ⊎ HasNoRoom (heap_of at) flags size → ⊥
-
--- nor is a heap both lengthened and kept short: a request has one size to grow to at most, and a segment gets it or not
-abbrev pub OneGrowthLaw : Type 0
-OneGrowthLaw = (old : World) (at : LocalHeap) (id n size other : ℕ) (options : RoomOptions) → IsGrowth at id n options size → IsGrowth at id n options other
-    → (size ≡ other) × (Lengthens old at options size → IsKeptShort old at options other → ⊥)
 
 -- Far accesses.
 
@@ -261,35 +204,9 @@ pub record HasSameObjects (old new : Heap) : Type 0 where
   pub rest : new ≡ record old { objects = new.objects }
   pub objects : (id : ℕ) → option_map but_bytes (object_at new id) ≡ option_map but_bytes (object_at old id)
 
-abbrev pub FarLaw : Type 0
-FarLaw = (old new : World) (command : FarCommand) (reply : Reply) → AreLocalHeaps old → IsFarCommand command → FarReplies old.loading.handles command reply new.loading.handles → new ≡ after_loading old new.loading
-    → (new.heaps ≡ old.heaps) × ((slot : ℕ) (at after : LocalHeap) → local_in old slot ≡ Some at → local_in new slot ≡ Some after → HasSameObjects (heap_of at) (heap_of after))
-
 -- Heaps that go.
 
 -- a step of the other families leaves a local heap exactly where its segment still has its range
 abbrev pub GoesLaw : (honest : Type 0) → Type 0
-GoesLaw honest = (format : Format) (old new : World) (command : LoadingCommand) (reply : Reply) → Step honest format old (OfLoading command) reply new → (slot : ℕ) (t : Table)
+GoesLaw honest = (format : Format) (old new : World) (command : Command) (reply : Reply) → LoadingStep honest format old command reply new → (slot : ℕ) (t : Table)
     → (finmap.get new.heaps slot ≡ Some t) ↔ ((finmap.get old.heaps slot ≡ Some t) × IsSomeAnd (bytes_at new.loading.handles.heap slot) (λ bytes. t.hi ≤ length bytes))
-
--- a heap began: LocalInit answered 1, and it has no object
-pub record IsBegun (command : Command) (reply : Reply) (new : World) (slot : ℕ) : Type 0 where
-  pub selector : ℕ
-  pub start : ℕ
-  pub end : ℕ
-  pub asked : command ≡ OfLocals (LocalInit selector start end)
-  pub answered : reply ≡ Word 1
-  pub range : Span
-  pub begun : finmap.get new.heaps slot ≡ Some (new_table range)
-
--- where there is no local heap there is none after a step, unless one began
-abbrev pub NeverBackLaw : (honest : Type 0) → Type 0
-NeverBackLaw honest = (format : Format) (old new : World) (command : Command) (reply : Reply) → Step honest format old command reply new → (slot : ℕ) → finmap.get old.heaps slot ≡ None
-    → (finmap.get new.heaps slot ≡ None) ⊎ IsBegun command reply new slot
-
--- so a heap that is gone is gone after any run in which no LocalInit is answered 1
-abbrev pub BeginsNone : Event → Type 0
-BeginsNone event = (selector start end : ℕ) → event.command ≡ OfLocals (LocalInit selector start end) → event.reply ≢ Word 1
-
-abbrev pub GoneLaw : (honest : Type 0) → Type 0
-GoneLaw honest = (format : Format) (old new : World) (events : List Event) → Run (Step honest format) old events new → All BeginsNone events → (slot : ℕ) → finmap.get old.heaps slot ≡ None → finmap.get new.heaps slot ≡ None

@@ -1,21 +1,20 @@
--- The machine: its commands, what a step of each leaves of the world, and runs.
+-- The machine: what a step of each command leaves of the world, and runs.
 use Rattle.std.specs.Prelude.{◌≡◌, List, [], ◌∷◌}
-use Rattle.w16_loading.specs.{File.Format, Modules.LoadingWorld, Families.LoadingCommand, Answers.StepOver, Replies.Reply}
-use Rattle.w16_machine.specs.{World.World, Local.left_in, LocalCalls.LocalCommand, LocalCalls.LocalStep}
-
--- a command of loading, which has the calls on handles and the far accesses too, or one on local heaps
-pub data Command : Type 0 where
-  OfLoading : LoadingCommand → Command
-  OfLocals : LocalCommand → Command
+use Rattle.w16_loading.specs.{File.Format, Modules.LoadingWorld, Families.Command, Families.Command.OfLocals, Answers.StepOver, Replies.Reply}
+use Rattle.w16_machine.specs.{World.World, Local.left_in, LocalCalls.LocalStep}
 
 -- the world that a step of loading leaves: the local heaps stay whose segments still have their ranges
 abbrev pub after_loading : World → LoadingWorld → World
 after_loading old loading = record { loading = loading; heaps = left_in loading.handles.heap old.heaps; ds = old.ds }
 
--- One step, over a store that is honest where the premise holds.
+-- a step of loading, as a step of the machine
+abbrev pub LoadingStep : Type 0 → Format → World → Command → Reply → World → Type 0
+LoadingStep honest format old command reply new = StepOver honest format old.loading command reply new.loading × (new ≡ after_loading old new.loading)
+
+-- One step, over a store that is honest where the premise holds: a call on local heaps, or a step of loading, which has all other families.
 abbrev pub Step : Type 0 → Format → World → Command → Reply → World → Type 0
-Step honest format old (OfLoading command) reply new = StepOver honest format old.loading command reply new.loading × (new ≡ after_loading old new.loading)
 Step honest format old (OfLocals command) reply new = LocalStep old command reply new
+Step honest format old command reply new = LoadingStep honest format old command reply new
 
 -- Runs.
 

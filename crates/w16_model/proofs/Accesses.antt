@@ -1,7 +1,7 @@
 -- What a far access without a fault reaches.
 use Rattle.w16_model.proofs
 use proofs.Common as C
-use proofs.Common.{◌≡◌, ℕ, ◌+◌, ◌*◌, ◌≤◌, Bool, true, false, cond, ◌||◌, if◌then◌else◌, nat_lt, List, length, Option, Some, None, refl, ap, ◌∙◌, arith, FarFault, Limit, REACH, Object, object_at, bytes_at, Handles, Part, far_fault}
+use proofs.Common.{◌≡◌, ℕ, ◌+◌, ◌*◌, ◌≤◌, Bool, true, false, ◌||◌, if◌then◌else◌, nat_lt, List, length, Option, Some, None, refl, ap, ◌∙◌, arith, FarFault, Limit, REACH, Object, object_at, bytes_at, Handles, Part, far_fault}
 use proofs.KeptHeaps.{bytes_in}
 
 -- a slot's object has so many bytes or more
@@ -21,7 +21,7 @@ IsNone fault = fault ≡ None
 abbrev limit_fault : Part → ℕ → List ℕ → Option FarFault
 limit_fault p end bytes = if C.is_past (length bytes) p end then Some Limit else None
 
-abbrev bytes_fault : Part → ℕ → Option (List ℕ) → Option FarFault
+abbrev pub bytes_fault : Part → ℕ → Option (List ℕ) → Option FarFault
 bytes_fault p end b = elim b [ None ↦ Some C.NotPresent | Some bytes ↦ limit_fault p end bytes ]
 
 abbrev nowhere : Part
@@ -58,18 +58,3 @@ reached handles selector offset n free = (both_reached _ _ _ n free).0
 
 pub near : (handles : Handles) (selector offset n : ℕ) → far_fault handles selector offset n ≡ None → offset + n ≤ REACH
 near handles selector offset n free = (both_reached handles _ _ n free).1
-
--- and one to bytes that the selector reaches is without a fault
-pub reached_fault : (handles : Handles) (selector offset n : ℕ) (p : Part) (bytes : List ℕ) → C.part_of_selector handles selector ≡ Some p → bytes_at handles.heap p.slot ≡ Some bytes → offset + n ≤ REACH → REACH * p.number + (offset + n) ≤ length bytes
-    → far_fault handles selector offset n ≡ None
-reached_fault handles selector offset n p bytes found has near fits =
-    ap (λ s. elim s as (λ _. Option _) [ None ↦ Some C.BadSelector | Some p ↦ bytes_fault p (offset + n) (bytes_at handles.heap p.slot) ]) found
-    ∙ ap (bytes_fault p _) has
-    ∙ ap (λ b. cond {A = Option _} b (Some Limit) None) (ap (λ b. b || nat_lt (length bytes) (REACH * p.number + (offset + n))) (short REACH _ near) ∙ short _ _ fits)
-  where
-    short : (a b : ℕ) → b ≤ a → nat_lt a b ≡ false
-    short a b le = turn _ refl
-      where
-        turn : (t : Bool) → nat_lt a b ≡ t → nat_lt a b ≡ false
-        turn false t = t
-        turn true t = absurd (omega (arith, le, C.ltb-true a b t))

@@ -3,9 +3,9 @@ use Rattle.w16_model.proofs
 use proofs.Common as C
 use proofs.Common.{◌≡◌, ◌≢◌, ℕ, ◌+◌, ◌-◌, ◌==◌, ◌⊎◌, inl, inr, Bool, true, false, not, ◌&&◌, ◌||◌, nat_lt, IfSome, IsSomeAnd, Option, Some, None, is_some, refl, sym, ap, ◌∙◌, subst, false≢true, Kind, Fixed, GMEM_MOVEABLE, Heap, Object, object_at, is_fixed, is_pinned_object}
 use proofs.Common.{with_newest, Handles, slots_for, has_flag, rounded_size, alloc_options, StandsStill, Call, Outcome, IsSame, IsUnmoved, IsLocked, IsUnlocked, IsFreed, IsNewest, IsOldest, IsEntered, IsAllocated, IsCompacted, IsModified, IsDiscarded, IsResized, handle_in, IsAbout}
-use proofs.Common.{may_change, may_move_own, may_move_others}
+use proofs.Common.{may_change, may_move_own}
 use proofs.KeptHeaps.{inserted_other, taken_other, bytes_in}
-use proofs.CallLaws.{rest_of, moves_of, object_beside, place_own, place_beside, attributes_beside}
+use proofs.CallLaws.{rest_of, moves_of, object_beside, place_own, place_beside}
 use proofs.{Heaps.get-update_other, Others.others_law, Outcomes.address_law, Runs.some_slots, Runs.unused, CallOutcomes.outcome}
 use Rattle.std.specs.FinMap as finmap
 
@@ -27,11 +27,7 @@ stands old new q same = turn _ same
 no_place : (old new : Heap) (q : ℕ) → finmap.get old.places q ≡ None → StandsStill old new q
 no_place old new q none = subst (λ p. IfSome p (λ at. finmap.get new.places q ≡ Some at)) (sym none) tt
 
-none_of : {A : Type 0} (p : Option A) → is_some p ≡ false → p ≡ None
-none_of None e = refl
-none_of (Some a) e = absurd (false≢true (sym e))
-
-apart : (slot q : ℕ) → q ≢ slot → ◌≡◌ {A = Option ℕ} (Some slot) (Some q) → ⊥
+pub apart : (slot q : ℕ) → q ≢ slot → ◌≡◌ {A = Option ℕ} (Some slot) (Some q) → ⊥
 apart slot q d e = let same : slot ≡ q = cc in d (sym same)
 
 none_apart : (q : ℕ) → ◌≡◌ {A = Option ℕ} None (Some q) → ⊥
@@ -39,11 +35,11 @@ none_apart q e = cc
 
 module _ (old new : Handles) (is : C.AreHandles old) (call : Call) (answer : C.Answer) (q : ℕ) where
   -- a call names its object
-  about : (handle slot : ℕ) → handle_in call ≡ Some handle → C.slot_of_handle old handle ≡ Some slot → q ≡ slot → IsAbout old call q
+  pub about : (handle slot : ℕ) → handle_in call ≡ Some handle → C.slot_of_handle old handle ≡ Some slot → q ≡ slot → IsAbout old call q
   about handle slot names found e = subst (λ p. IsSomeAnd p (λ h. C.slot_of_handle old h ≡ Some q)) (sym names) (found ∙ ap Some (sym e))
 
   -- an object that is there isn't at a free slot
-  not_free : (slot : ℕ) → object_at old.heap slot ≡ None → is_some (object_at old.heap q) ≡ true → q ≢ slot
+  pub not_free : (slot : ℕ) → object_at old.heap slot ≡ None → is_some (object_at old.heap q) ≡ true → q ≢ slot
   not_free slot free there e = false≢true (sym (ap is_some (ap (object_at old.heap) e ∙ free)) ∙ there)
 
   abbrev Kept : Type 0
@@ -77,32 +73,14 @@ module _ (old new : Handles) (is : C.AreHandles old) (call : Call) (answer : C.A
       let d : q ≢ r.slot = λ e. out (about r.handle r.slot (ap handle_in r.asked) r.named.found e) in
       subst (λ p. IsKeptObject (object_at old.heap q) p) (sym (object_beside old new is call answer r q (there (ap may_change r.asked)) d)) (kept_or_discarded old.heap r.heap (Some r.slot) k.count q k.others (apart r.slot q d))
 
-  -- so it has its attributes
-  attributes_kept : Outcome old call answer new → is_some (object_at old.heap q) ≡ true → (IsAbout old call q → ⊥) → finmap.get new.attributes q ≡ finmap.get old.attributes q
-  attributes_kept (IsSame s e) there out = ap (λ (h : Handles). finmap.get h.attributes q) e
-  attributes_kept (IsUnmoved s e) there out = ap (λ (h : Handles). finmap.get h.attributes q) e
-  attributes_kept (IsLocked l) there out = ap (λ (h : Handles). finmap.get h.attributes q) l.rest
-  attributes_kept (IsUnlocked u) there out = ap (λ (h : Handles). finmap.get h.attributes q) u.rest
-  attributes_kept (IsFreed f) there out = ap (λ (h : Handles). finmap.get h.attributes q) f.rest ∙ taken_other old.attributes f.slot q (λ e. out (about f.handle f.slot (ap handle_in f.asked) f.named.found e))
-  attributes_kept (IsNewest n) there out = ap (λ (h : Handles). finmap.get h.attributes q) n.rest
-  attributes_kept (IsOldest n) there out = ap (λ (h : Handles). finmap.get h.attributes q) n.rest
-  attributes_kept (IsEntered e) there out = ap (λ (h : Handles). finmap.get h.attributes q) e.rest
-      ∙ inserted_other old.attributes e.slot (C.attributes_asked e.flags e.size) q (not_free e.slot (unused old is e.slot (slots_for (rounded_size e.size)) (some_slots (rounded_size e.size)) e.free) there)
-  attributes_kept (IsAllocated a) there out = ap (λ (h : Handles). finmap.get h.attributes q) a.rest
-      ∙ inserted_other old.attributes a.slot (C.attributes_asked a.flags a.size) q (not_free a.slot (unused old is a.slot (slots_for (rounded_size a.size)) (some_slots (rounded_size a.size)) a.free) there)
-  attributes_kept (IsCompacted c) there out = ap (λ (h : Handles). finmap.get h.attributes q) c.rest
-  attributes_kept (IsModified m) there out = ap (λ (h : Handles). finmap.get h.attributes q) m.rest
-  attributes_kept (IsDiscarded d) there out = ap (λ (h : Handles). finmap.get h.attributes q) d.rest
-  attributes_kept (IsResized r) there out = attributes_beside old new is call answer r q there (λ e. out (about r.handle r.slot (ap handle_in r.asked) r.named.found e))
-
   abbrev Still : Handles → Type 0
   Still h = StandsStill old.heap h.heap q
 
-  same_place : finmap.get new.heap.places q ≡ finmap.get old.heap.places q → Still new
+  pub same_place : finmap.get new.heap.places q ≡ finmap.get old.heap.places q → Still new
   same_place e = stands old.heap new.heap q e
 
   -- where it stands in the heap in which an object gets another size, there it stands
-  still_beside : (r : C.Resized old call answer new) → is_some (object_at old.heap q) ≡ true → q ≢ r.slot → StandsStill old.heap r.heap q → Still new
+  pub still_beside : (r : C.Resized old call answer new) → is_some (object_at old.heap q) ≡ true → q ≢ r.slot → StandsStill old.heap r.heap q → Still new
   still_beside r there d still = subst (λ p. IfSome (finmap.get old.heap.places q) (λ at. p ≡ Some at)) (sym (place_beside old new is call answer r q there d)) still
 
   -- where the object is pinned
@@ -170,35 +148,8 @@ module _ (old new : Handles) (is : C.AreHandles old) (call : Call) (answer : C.A
             let here : finmap.get new.heap.places q ≡ finmap.get r.heap.places q = ap (finmap.get new.heap.places) (e ∙ sym (homes e f)) ∙ place_own old new is call answer r ∙ ap (finmap.get r.heap.places) (sym e) in
             subst (λ p. IfSome (finmap.get old.heap.places q) (λ at. p ≡ Some at)) (sym here) ((moves_of old new is call answer r).still (inr (λ i. has i && (pinned_is r.slot r.object e r.named.there i && not (f i)))) q)
 
-  -- and where nothing may be moved
-  still : Outcome old call answer new → may_move_others call ≡ false → is_some (object_at old.heap q) ≡ true → (IsAbout old call q → ⊥) → Still new
-  still (IsSame s e) m there out = same_place (ap (λ (h : Handles). finmap.get h.heap.places q) e)
-  still (IsUnmoved s e) m there out = same_place (ap (λ (h : Handles). finmap.get h.heap.places q) e)
-  still (IsLocked l) m there out = same_place (ap (λ (h : Handles). finmap.get h.heap.places q) l.rest)
-  still (IsUnlocked u) m there out = same_place (ap (λ (h : Handles). finmap.get h.heap.places q) u.rest)
-  still (IsFreed f) m there out = same_place (ap (λ (h : Handles). finmap.get h.heap.places q) f.rest ∙ taken_other old.heap.places f.slot q (λ e. out (about f.handle f.slot (ap handle_in f.asked) f.named.found e)))
-  still (IsNewest n) m there out = same_place (ap (λ (h : Handles). finmap.get h.heap.places q) n.rest)
-  still (IsOldest n) m there out = same_place (ap (λ (h : Handles). finmap.get h.heap.places q) n.rest)
-  still (IsEntered e) m there out = same_place (ap (λ (h : Heap). finmap.get h.places q) e.entered.entered)
-  still (IsAllocated a) m there out = ((address_law old.heap new.heap is.heap a.count).0 a.slot (alloc_options a.flags)
-      a.object (with_newest a.slot a.object) a.settled).unmoved (sym (ap may_move_others a.asked) ∙ m) q
-      (apart a.slot q (not_free a.slot (unused old is a.slot (slots_for (rounded_size a.size))
-      (some_slots (rounded_size a.size)) a.free) there))
-  still (IsCompacted c) m there out = absurd (false≢true (sym m ∙ ap may_move_others c.asked))
-  still (IsModified c) m there out = same_place (ap (λ places. finmap.get places q) c.changes.places)
-  still (IsDiscarded d) m there out = same_place (ap (λ (h : Handles). finmap.get h.heap.places q) d.rest ∙ taken_other old.heap.places d.slot q (λ e. out (about d.handle d.slot (ap handle_in d.asked) d.named.found e)))
-  still (IsResized r) m there out =
-      let d : q ≢ r.slot = λ e. out (about r.handle r.slot (ap handle_in r.asked) r.named.found e) in
-      still_beside r there d ((moves_of old new is call answer r).others.unmoved (sym (ap may_move_others r.asked) ∙ m) q (apart r.slot q d))
-
 pub bystanders_law : C.BystandersLaw
 bystanders_law old new call answer q is step there out = bystander old new is call answer q (outcome old new call _ is step) (λ m. there) out
 
-pub attributes_law : C.AttributesLaw
-attributes_law old new call answer q is step there out = attributes_kept old new is call answer q (outcome old new call _ is step) there out
-
 pub pinned_law : C.PinnedStayLaw
 pinned_law old new call answer q is step pinned out = pinned_still old new is call answer q pinned (outcome old new call _ is step) out
-
-pub still_law : C.StillLaw
-still_law old new call answer q is step m there out = still old new is call answer q (outcome old new call _ is step) m there out

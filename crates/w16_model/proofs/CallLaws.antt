@@ -5,9 +5,9 @@ use proofs.Housed as K
 use proofs.Common.{◌≡◌, ◌≢◌, ℕ, ◌+◌, ◌-◌, ◌/◌, ◌==◌, ◌⊎◌, inl, inr, Bool, true, false, cond, IsSomeAnd, take, Option, Some, None, option_map, is_some, unwrap_or, refl, sym, ap, ◌∙◌, subst, eq-eqb, ne_eqb, false≢true, cases_eq}
 use proofs.Common.{eligible, Heap, Object, blocks, object_at, bytes_at, without, Handles, AreHandles, slot_of_handle, handle_of, Answer, rounded_size, Word, realloc_options, Call, ReAllocs, Calls, Outcome, Resized}
 use proofs.Common.{counts_moved, IsSame, IsUnmoved, IsLocked, IsUnlocked, IsFreed, IsNewest, IsOldest, IsEntered, IsAllocated, IsCompacted, IsModified, IsDiscarded, IsResized, KeepsContents, may_change, next_slot, slot_after}
-use proofs.KeptHeaps.{bytes_in, inserted_other, taken_other}
+use proofs.KeptHeaps.{bytes_in}
 use proofs.CallOutcomes.{outcome, reallocates}
-use proofs.{KeptHandles.put_bytes, KeptHandles.put_same, Housed.given}
+use proofs.{KeptHandles.put_bytes, KeptHandles.put_same}
 use proofs.{Housed.keeps, KeptRest.absents_rest, Naming.names_law, Naming.slot_in_handle, Reallocations.moves_law, ResizedHandles.found_some}
 use Rattle.w16_model.specs.Reallocation.{IsResized as IsObjectResized}
 use Rattle.std.specs.FinMap as finmap
@@ -66,12 +66,6 @@ module _ (old new : Handles) (is : AreHandles old) (call : Call) (answer : Answe
 
     pub place_beside : finmap.get new.heap.places q ≡ finmap.get r.heap.places q
     place_beside = ap (λ (h : Heap). finmap.get h.places q) heap_is ∙ K.place_other old is r.slot (rounded_size r.size) (realloc_options r.flags) r.object r.named.there r.first r.gets r.heap r.resized q bystands other
-
-    pub attributes_beside : finmap.get new.attributes q ≡ finmap.get old.attributes q
-    attributes_beside = ap (λ (h : Handles). finmap.get h.attributes q) r.rest
-        ∙ ap (λ m. finmap.get m q) (K.run_is old is r.slot (rounded_size r.size) (realloc_options r.flags) r.object r.named.there r.first r.gets r.heap r.resized)
-        ∙ inserted_other (finmap.remove old.attributes r.slot) r.first (given old is r.slot (rounded_size r.size) (realloc_options r.flags) r.object r.named.there r.first r.gets r.heap r.resized) q bystands
-        ∙ taken_other old.attributes r.slot q other
 
   -- what has no bytes in that heap has none in the end
   pub no_bytes : (q : ℕ) → is_some (object_at old.heap q) ≡ true → bytes_at r.heap q ≡ None → bytes_at new.heap q ≡ None

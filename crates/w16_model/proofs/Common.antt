@@ -19,8 +19,8 @@ pub use Rattle.std.specs.Ordering.{eq_by_cmp, nat_cmp}
 pub use Rattle.w16_model.specs.Arrangement.{IsArrangement, IsFreeStretch, IsGap, IsLongestStretch}
 pub use Rattle.w16_model.specs.Bytes.{part, put_part}
 unfoldable pub use Rattle.w16_model.specs.Bytes.{repeated}
-pub use Rattle.w16_model.specs.CallLaws.{AttributesLaw, BystandersLaw, ContentsLaw, FarEffect, FarEffectLaw, IsAbout, IsKeptOrDiscarded, IsMoved, IsNewestOf, IsSumOfMoved, IsWritten, KeepsContents, MovedLaw, NewObjectLaw, NullLaw, OnlyLeave, OthersOrderLaw, HasNewSize, SizeLaw}
-pub use Rattle.w16_model.specs.CallLaws.{OldHandleLaw, OthersStand, PinnedStayLaw, Reaches, ReadBackLaw, SlotsLaw, StillLaw, UnorderedLaw, UseLaw, handle_in, may_change, may_move_others, may_move_own, may_order, next_slot, size_at, slot_after}
+pub use Rattle.w16_model.specs.CallLaws.{BystandersLaw, FarEffect, FarEffectLaw, IsAbout, IsKeptOrDiscarded, IsNewestOf, IsWritten, KeepsContents, OnlyLeave, HasNewSize, SizeLaw}
+pub use Rattle.w16_model.specs.CallLaws.{PinnedStayLaw, Reaches, SlotsLaw, handle_in, may_change, may_move_own, next_slot, slot_after}
 pub use Rattle.w16_model.specs.Calls.{Answer, GlobalAllocs, GlobalCompacts, HandleCommand, HandleStep, HasNoSlots, IsEmptyFixed, IsRefusedAlloc, IsTooLong, alloc_options, free_own, global_free, global_lock, global_unlock, handle_or_0, has_flag, is_absent_asked, kind_asked, locks_at, rounded_size}
 pub use Rattle.w16_model.specs.Calls.Answer.{Dword, Walked, Word}
 pub use Rattle.w16_model.specs.Calls.HandleCommand.{GetSelectorBase, GetSelectorLimit, GlobalAlloc, GlobalCompact, GlobalFlags, GlobalFree, GlobalHandle, GlobalLRUNewest, GlobalLRUOldest, GlobalLock, GlobalSize, GlobalUnlock, Moved, Walk}
@@ -34,15 +34,15 @@ pub use Rattle.w16_model.specs.Gap.{ArePlaced, IsClear, IsGapOf, IsHole, IsLaid,
 pub use Rattle.w16_model.specs.Handles.{Gives, Handles, IsFreeRun, IsFreeSlot, IsSlot, Part, far_pointer, handle_of}
 pub use Rattle.w16_model.specs.Handles.{has_slot, offset_in, owner_of, part_of_selector, reached, selector_in, selector_of, slot_of_handle, slot_of_selector, slots_at, slots_for}
 pub use Rattle.w16_model.specs.Heap.{Heap, IsCounted, IsHeap, IsMultiple, Object, block_of, blocks, bytes_at, hold_of_object, is_discardable, is_fixed, is_in_order, is_pinned_object, object_at, size_of}
-pub use Rattle.w16_model.specs.Law.{AddressLaw, AreAllOf, AreHandles, AreRuns, DiscardsAreLeast, EmptyLaw, FarLaw, GapListLaw, HandleLaw, HoleAfterLaw, HoleIsLongest, IsOwnedRun, IsRun, KeepsOthers, LargestLaw, LeastLaw, LongerLaw, gaps, holes, spans_from}
-pub use Rattle.w16_model.specs.Law.{IsFirstItem, IsSized, MoreDiscardsLaw, NamesLaw, NoStretch, OthersLaw, OutcomeLaw, OwnerLaw, PinnedLaw, RangeLaw, ReachLaw, RisingLaw, RoomLaw, SoundLaw, StandsStill, WalkLaw, all_pinned, empty_handles, empty_heap}
+pub use Rattle.w16_model.specs.Law.{AddressLaw, AreAllOf, AreHandles, AreRuns, DiscardsAreLeast, EmptyLaw, GapListLaw, HandleLaw, HoleIsLongest, IsOwnedRun, IsRun, KeepsOthers, LeastLaw, gaps, holes, spans_from}
+pub use Rattle.w16_model.specs.Law.{IsFirstItem, IsSized, MoreDiscardsLaw, NamesLaw, NoStretch, OthersLaw, PinnedLaw, RangeLaw, ReachLaw, RoomLaw, SoundLaw, StandsStill, WalkLaw, all_pinned, empty_handles, empty_heap}
 pub use Rattle.w16_model.specs.OneObject.{Enters, after_discard, after_free, after_lock, after_modify, after_touch, after_unlock, refused_order}
 pub use Rattle.w16_model.specs.Outcomes.{Call, CallOutcomesLaw, CallStep, IsNamed, Orders, Outcome, Resized, attributes_asked, counts_moved}
 pub use Rattle.w16_model.specs.Outcomes.Call.{Calls, ReAllocs}
 pub use Rattle.w16_model.specs.Outcomes.Outcome.{IsAllocated, IsCompacted, IsDiscarded, IsEntered, IsFreed, IsLocked, IsModified, IsNewest, IsOldest, IsResized, IsSame, IsUnlocked, IsUnmoved}
 pub use Rattle.w16_model.specs.Owned.{is_owned, owns, refuses_write}
-pub use Rattle.w16_model.specs.Reallocation.{AreResized, ChangesKind, DiscardHeapLaw, FewestLaw, HeapLaw, IsArrangementWithout, IsFreeBehind, IsFreeWithout, IsLongestWithout, KeepsRest, KindHeapLaw, KindLaw}
-pub use Rattle.w16_model.specs.Reallocation.{LacksPlace, LeftOutLaw, MovesLaw, MovesLittle, OneOutcomeLaw, ReallocatesFewest, RestLaw, counted_loose, is_counted, is_held, is_revived, loosened, without_all}
+pub use Rattle.w16_model.specs.Reallocation.{AreResized, ChangesKind, DiscardHeapLaw, FewestLaw, HeapLaw, IsFreeBehind, KeepsRest, KindHeapLaw, KindLaw}
+pub use Rattle.w16_model.specs.Reallocation.{LacksPlace, MovesLaw, MovesLittle, OneOutcomeLaw, ReallocatesFewest, RestLaw, counted_loose, is_held, is_revived, loosened, without_all}
 pub use Rattle.w16_model.specs.Request.{Allocates, AreNew, Asked, Grows, IsGrown, IsNew, MakesRoom, Reallocates, ReallocatesObject, Request, Settles, StaysOrMovesToHole, compaction_prefix, discarded, discards_needed, eligible_count, is_elsewhere, most_room, moved_bytes, snapshot_of, stays_for}
 pub use Rattle.w16_model.specs.Resizes.{Anew, AnswersDiscard, AnswersHandle, CanExtend, Empties, GetsRun, GlobalReAllocs, IsNull, LacksRun}
 pub use Rattle.w16_model.specs.CallLaws.{OneSlotLaw, ResizeFewestLaw, ResizeLaw}

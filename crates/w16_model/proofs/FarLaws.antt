@@ -3,7 +3,7 @@ use Rattle.w16_model.proofs
 use proofs.Common as C
 use proofs.Common.{◌≡◌, ◌≢◌, ℕ, ◌+◌, ◌*◌, ◌≤◌, Bool, true, false, cond, IsSomeAnd, List, [], length, Option, Some, None, option_map, unwrap_or, refl, sym, ap, ◌∙◌, subst, arith, FarFault, ReadOnly, Limit, REACH, part, put_part, Heap, Object, object_at, newest, touched, after_touch}
 use proofs.Common.{Handles, Gives, Part, part_of_selector, selector_in, offset_in, FarAnswer, far_fault, far_part, far_bytes, far_read, far_write, after_write, Read, Write, Fill, Bytes, Done, Fault, IsWritten, Reaches, FarEffect}
-use proofs.Accesses.{Reached, reached, near, reached_fault}
+use proofs.Accesses.{Reached, reached, near}
 use proofs.Parts.{length-put_part, take-put_part, part-put_part, drop-put_part}
 use proofs.{Heaps.get-update_same, Heaps.get-update_other, KeptHeaps.bytes_in}
 
@@ -100,34 +100,3 @@ far_effect_law old new (Write pointer slice) answer is step = given (FarEffect o
     (write old is (selector_in pointer) (offset_in pointer) slice (FarEffect old (Write _ slice)) (λ fault. refl) (λ new r. r))
 far_effect_law old new (Fill pointer count byte) answer is step = given (FarEffect old (Fill _ count byte)) _ _ new step
     (write old is (selector_in pointer) (offset_in pointer) (C.repeated count byte) (FarEffect old (Fill _ count byte)) (λ fault. refl) (λ new r. r))
-
--- What was written is read back.
-module _ (mid : Handles) (selector offset : ℕ) (slice : List ℕ) (p : Part) (object : Object) (after : List ℕ) (found : part_of_selector mid selector ≡ Some p) (there : object_at mid.heap p.slot ≡ Some object) (has : object.bytes ≡ Some after)
-    (near : offset + length slice ≤ REACH) (fits : REACH * p.number + (offset + length slice) ≤ length after) where
-  reads : (far_read mid selector offset (length slice)).0 ≡ Bytes (part after (REACH * p.number + offset) (length slice))
-  reads = ap (λ (f : Option FarFault). (elim f as (λ _. FarAnswer × Handles) [
-    | Some fault ↦ (Fault fault, mid)
-    | None ↦ (Bytes (part (far_bytes mid selector) (C.far_at mid selector offset) (length slice)), record mid { heap = after_touch mid.heap (C.far_slot mid selector) })
-  ]).0) (reached_fault mid selector offset (length slice) p after found (ap bytes_in there ∙ has) near fits)
-      ∙ ap (λ (s : Option Part). let p : Part = unwrap_or s (record { slot = 0; number = 0 }) in Bytes (part (unwrap_or (C.bytes_at mid.heap p.slot) []) (REACH * p.number + offset) (length slice))) found
-      ∙ ap (λ (b : Option (List ℕ)). Bytes (part (unwrap_or b []) (REACH * p.number + offset) (length slice))) (ap bytes_in there ∙ has)
-
-abbrev WrittenTo : Handles → Handles → ℕ → List ℕ → Type 0
-WrittenTo old mid pointer slice = Reaches old (selector_in pointer) (offset_in pointer + length slice) (λ begin before after. IsWritten before (begin + offset_in pointer) slice after) mid
-
-pub read_back_law : C.ReadBackLaw
-read_back_law old mid new pointer slice answer is written step =
-    let r = far_effect_law old mid (Write _ slice) Done is written in step.0 ∙ by_object r (object_at old.heap _) r.object
-  where
-    by_bytes : (r : WrittenTo old mid pointer slice) (o : Object) (b : Option (List ℕ)) → IsSomeAnd b (λ bytes. (after : List ℕ) × IsWritten bytes (REACH * r.number + offset_in pointer) slice after × (object_at mid.heap r.slot ≡ Some (record o { bytes = Some after })))
-        → (far_read mid (selector_in pointer) (offset_in pointer) (length slice)).0 ≡ Bytes slice
-    by_bytes r o None h = absurd h
-    by_bytes r o (Some bytes) h =
-        let w = h.1 in
-        reads mid _ _ slice (record { slot = r.slot; number = r.number }) (record o { bytes = Some h.0 }) h.0
-        (ap (λ h. part_of_selector h (selector_in pointer)) r.rest ∙ r.found) h.2 refl r.near (omega (arith, w.fits, w.long)) ∙ ap Bytes w.written
-
-    by_object : (r : WrittenTo old mid pointer slice) (p : Option Object) → IsSomeAnd p (λ o. IsSomeAnd o.bytes (λ bytes. (after : List ℕ) × IsWritten bytes (REACH * r.number + offset_in pointer) slice after × (object_at mid.heap r.slot ≡ Some (record o { bytes = Some after }))))
-        → (far_read mid (selector_in pointer) (offset_in pointer) (length slice)).0 ≡ Bytes slice
-    by_object r None h = absurd h
-    by_object r (Some o) h = by_bytes r o _ h

@@ -3,11 +3,11 @@ use Rattle.w16_model.proofs
 use proofs.Common as C
 use proofs.KeptHeaps as M
 use proofs.Common.{◌≡◌, ◌≢◌, ℕ, ◌+◌, ◌-◌, ◌<◌, ◌≤◌, inl, inr, Bool, true, false, cond, not, IfOk, List, [], ◌∷◌, length, fold, take, All, Option, Some, None, option_map, is_some, refl, sym, ap, ◌∙◌, subst, false≢true, cases_eq, Block, Heap, Object, IsHeap, object_at, absent, with_ordered}
-use proofs.Common.{Kind, after_touch, Settles, discarded, Attributes, Handles, AreHandles, IsFreeRun, IsOwnedRun, IsSized, slots_at, bytes_at, selector_in, offset_in, part, put_part, far_fault, far_slot, far_at, after_write, Read, Write, Fill, Bytes, Done, Fault}
+use proofs.Common.{Kind, after_touch, Settles, discarded, Attributes, Handles, AreHandles, IsFreeRun, IsOwnedRun, IsSized, slots_at, bytes_at, part, put_part, far_fault, far_slot, far_at, after_write, Bytes, Done, Fault}
 use proofs.CallOutcomes.{LockOf, UnlockOf, lock_is, unlock_is, ok_map}
 use proofs.Runs.{slots_with, slots_beside, slots_left, runs_with, runs_without}
 use proofs.KeptHeaps.{bytes_in, inserted_here, inserted_other, taken_here, taken_other}
-use proofs.{Parts.All-repeated, Parts.length-put_part, Accesses.Reached, Accesses.reached, Heaps.get-update_same, Heaps.get-update_other}
+use proofs.{Parts.length-put_part, Accesses.Reached, Accesses.reached, Heaps.get-update_same, Heaps.get-update_other}
 use Rattle.std.specs.FinMap as finmap
 
 -- Which ids have an object.
@@ -269,10 +269,3 @@ module _ (old : Handles) (is : AreHandles old) where
       turn : (b : Bool) → AreHandles (cond {A = C.FarAnswer × Handles} b (Fault C.ReadOnly, old) (C.data_write old selector offset slice)).1
       turn true = is
       turn false = data_handles selector offset slice new_bytes
-
--- each far access keeps what holds of handles
-pub far_law : C.FarLaw
-far_law old new (Read pointer count) answer is command step = subst AreHandles (sym step.1) (read_handles old is _ _ count)
-far_law old new (Write pointer bytes) answer is command step = subst AreHandles (sym step.1) (write_handles old is (selector_in pointer) (offset_in pointer) bytes command)
-far_law old new (Fill pointer count byte) answer is command step =
-    subst AreHandles (sym step.1) (write_handles old is (selector_in pointer) (offset_in pointer) (C.repeated count byte) (All-repeated count byte command))

@@ -1,8 +1,7 @@
 -- Blocks that are laid out by address.
 use Rattle.w16_model.proofs
 use Rattle.std.specs.List.{AllByRecursion as Each}
-use proofs.Common.{◌≡◌, ℕ, ◌<◌, ◌≤◌, inl, min, Bool, true, false, cond, if◌then◌else◌, nat_le, nat_lt, List, [], ◌∷◌, map, filter, refl, sym, ◌∙◌, subst, arith, le-leb, cond-true, cond-false, lt-leb, Span, Block, block_end, is_any, first_from, spans_from, holes, Misses, ArePlaced, IsLaid}
-use proofs.Common.{RisingLaw}
+use proofs.Common.{◌≡◌, ℕ, ◌<◌, ◌≤◌, inl, min, true, false, cond, if◌then◌else◌, nat_le, nat_lt, List, [], ◌∷◌, map, filter, refl, ◌∙◌, arith, le-leb, cond-true, cond-false, lt-leb, Span, Block, block_end, is_any, first_from, spans_from, holes, Misses, ArePlaced, IsLaid}
 use proofs.Gaps.{Each-map, EachPair, All-from_Each, AllPairs-from_EachPair}
 
 -- all blocks of a laid list begin at or after its low end, and the low end is at most the high one
@@ -65,30 +64,3 @@ module _ (lo hi : ℕ) (x : Block) (xs : List Block) (laid : IsLaid lo hi (x ∷
             (map block_end (filter is_any xs)) (ends_after (block_end x) hi xs laid.2),
       ) in
       λ i. let s : Span = record { from = lo; to = first_hole_end i } in cond (nat_lt s.from s.to) (s ∷ behind i) (behind i)
-
--- by address, each before the next
-one_span : (P : Span → Type 0) (t : Bool) (s : Span) (ss : List Span) → P s → Each P ss → Each P (cond {A = List Span} t (s ∷ ss) ss)
-one_span P true s ss h k = (h, k)
-one_span P false s ss h k = k
-
-two_spans : (R : Span → Span → Type 0) (t : Bool) (s : Span) (ss : List Span) → Each (R s) ss → EachPair R ss → EachPair R (cond {A = List Span} t (s ∷ ss) ss)
-two_spans R true s ss h k = (h, k)
-two_spans R false s ss h k = k
-
-holes_from : (lo hi : ℕ) (xs : List Block) → IsLaid lo hi xs → Each (λ s. lo ≤ s.from) (holes lo hi xs)
-holes_from lo hi [] laid = one_span (λ s. lo ≤ s.from) _ (record { from = lo; to = hi }) [] (omega arith) tt
-holes_from lo hi (x ∷ xs) laid =
-    subst (Each (λ s. lo ≤ s.from)) (sym (holes-cons lo hi x xs laid))
-    (one_span (λ s. lo ≤ s.from) (nat_lt lo x.at) (record { from = lo; to = x.at }) (holes _ hi xs) (omega arith)
-    (Each-map (λ s. block_end x ≤ s.from) (λ s. lo ≤ s.from) (λ s l. omega (arith, l, laid)) (holes (block_end x) hi xs) (holes_from (block_end x) hi xs laid.2)))
-
-holes_rise : (lo hi : ℕ) (xs : List Block) → IsLaid lo hi xs → EachPair (λ s t. s.to < t.from) (holes lo hi xs)
-holes_rise lo hi [] laid = two_spans (λ s t. s.to < t.from) _ (record { from = lo; to = hi }) [] tt tt
-holes_rise lo hi (x ∷ xs) laid =
-    subst (EachPair (λ s t. s.to < t.from)) (sym (holes-cons lo hi x xs laid))
-    (two_spans (λ s t. s.to < t.from) (nat_lt lo x.at) (record { from = lo; to = x.at }) (holes _ hi xs)
-    (Each-map (λ s. block_end x ≤ s.from) (λ s. x.at < s.from) (λ s l. omega (arith, l, laid)) (holes _ hi xs) (holes_from _ hi xs laid.2))
-    (holes_rise (block_end x) hi xs laid.2))
-
-pub rising_law : RisingLaw
-rising_law lo hi xs laid = AllPairs-from_EachPair (λ s t. s.to < t.from) _ (holes_rise lo hi xs laid)

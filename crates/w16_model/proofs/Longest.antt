@@ -207,6 +207,3 @@ module _ (lo hi : ℕ) (xs : List Block) (placed : ArePlaced lo hi xs) where
     where
       at_best : (n : ℕ) → MayBegin lo hi xs placed is_pinned n → room_from hi xs n ≡ room lo hi xs → (a : ℕ) × (b : ℕ) × IsGap lo hi xs a b × (b - a - loose_bytes xs a b ≡ room lo hi xs)
       at_best n may is = (n, first_from is_pinned hi xs n, gap_begins lo hi xs placed is_pinned n may (let long : first_from is_pinned hi xs n - n - loose_bytes xs n (first_from is_pinned hi xs n) ≡ room lo hi xs = is in omega (arith, long, some)), is)
-
-pub room_is_largest : C.LargestLaw
-room_is_largest lo hi xs placed = record { each_gap = each_gap lo hi xs placed; some_gap = some_gap lo hi xs placed }

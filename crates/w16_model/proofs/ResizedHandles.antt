@@ -2,16 +2,16 @@
 use Rattle.w16_model.proofs
 use proofs.Common as C
 use proofs.KeptHandles as M
-use proofs.Common.{◌≡◌, ◌≢◌, ℕ, ◌/◌, ◌<◌, ◌≤◌, ◌⊎◌, inl, inr, Bool, true, false, ◌||◌, ◌==◌, MatchBool, IfOk, IsSomeAnd, List, Option, Some, None, Result, Ok, Err, is_some, refl, sym, ap, ◌∙◌, subst, arith, false≢true, cases_eq, Kind, Fixed, Refusal, LARGEST_SIZE}
+use proofs.Common.{◌≡◌, ◌≢◌, ℕ, ◌<◌, ◌≤◌, ◌⊎◌, inl, inr, Bool, true, false, ◌||◌, ◌==◌, MatchBool, IfOk, IsSomeAnd, List, Option, Some, None, Result, Ok, Err, is_some, refl, sym, ap, ◌∙◌, subst, arith, false≢true, cases_eq, Kind, Refusal, LARGEST_SIZE}
 use proofs.Common.{REACH, GMEM_MODIFY, Heap, Object, IsHeap, object_at, is_fixed, absent, moved_bytes, Call, Resized, Calls, ReAllocs, after_modify, Handles, AreHandles, IsSized, slots_at, slots_for, slot_of_handle, handle_of, Answer, has_flag, rounded_size, Word, Dword, ChangesKind}
 use proofs.Common.{ReallocatesFewest, realloc_options, kind_modified, modified, IsNull, AnswersHandle, Empties, Anew, Resizes}
-use proofs.Housed.{stays, housed_old, anew_handles}
+use proofs.Housed.{stays, anew_handles}
 use proofs.KeptHandles.{moved_handles, other_handles}
 use proofs.KeptHeaps.{bytes_in, newest_heap, oldest_heap, ordered}
 use proofs.CallOutcomes.{outcome, reallocates}
 use proofs.KindChanges.{kind_law, kind_heap_law, modify_none}
 use proofs.Absence.{absent_heap, discard_heap_law, discard_absent}
-use proofs.{Fewest.some_handle, Naming.names_law, Naming.slot_in_handle, Runs.some_slots, Reallocations.fewest_law}
+use proofs.{Fewest.some_handle, Naming.names_law, Runs.some_slots, Reallocations.fewest_law}
 use Rattle.w16_model.specs.{declared.Owned.Owned}
 use Rattle.w16_model.specs.declared.Refusal.TheVariants as refusals
 
@@ -110,31 +110,6 @@ found_some old handle slot found none = turn (object_at old.heap slot) ((names_l
 null_heap : (old new : Handles) (answer : ℕ) → IsNull old answer new → new.heap ≡ old.heap
 null_heap old new answer null = ap (λ h. h.heap) null.1
 
-pub null_law : C.NullLaw
-null_law old new handle size flags is step = turn (outcome old new (ReAllocs handle size flags) (Word 0) is step)
-  where
-    other : (command : C.HandleCommand) → ReAllocs handle size flags ≡ Calls command → ⊥
-    other command e = cc
-
-    -- an answered one gives a handle
-    never : (named slot : ℕ) → slot_of_handle old named ≡ Some slot → ◌≡◌ {A = Answer} (Word 0) (Word named) → new.heap ≡ old.heap
-    never named slot found says = let none : 0 ≡ named = cc in absurd (found_some old named slot found (sym none))
-
-    turn : C.Outcome old (ReAllocs handle size flags) (Word 0) new → new.heap ≡ old.heap
-    turn (C.IsSame s e) = ap (λ h. h.heap) e
-    turn (C.IsUnmoved s e) = ap (λ h. h.heap) e
-    turn (C.IsModified m) = never m.handle m.slot m.named.found m.answered
-    turn (C.IsDiscarded d) = never d.handle d.slot d.named.found d.answered
-    turn (C.IsResized r) = let none : 0 ≡ handle_of r.object.kind r.first = (let e = r.answered in cc) in absurd (some_handle r.object.kind r.first (sym none))
-    turn (C.IsLocked l) = absurd (other _ l.asked)
-    turn (C.IsUnlocked u) = absurd (other _ u.asked)
-    turn (C.IsFreed f) = absurd (other _ f.asked)
-    turn (C.IsNewest n) = absurd (other _ n.asked)
-    turn (C.IsOldest n) = absurd (other _ n.asked)
-    turn (C.IsEntered e) = absurd (other _ e.asked)
-    turn (C.IsAllocated a) = absurd (other _ a.asked)
-    turn (C.IsCompacted c) = absurd (other _ c.asked)
-
 -- Fewest discards.
 module _ (old new : Handles) (is : AreHandles old) (handle size flags answer slot : ℕ) where
   abbrev Fewest : Object → Type 0
@@ -196,16 +171,13 @@ resize_fewest_law old new handle size flags answer is step slot found free same 
 
 -- Handles that stay, and those that go.
 module _ (old new : Handles) (is : AreHandles old) (call : Call) (reply : Answer) (r : Resized old call reply new) where
-  handle_is : r.handle ≡ handle_of r.object.kind r.slot
+  pub handle_is : r.handle ≡ handle_of r.object.kind r.slot
   handle_is = subst (λ p. IsSomeAnd p (λ o. r.handle ≡ handle_of o.kind r.slot)) r.named.there ((names_law old r.handle r.slot).0.0 r.named.found)
 
   -- a new handle is of another slot
   pub moves : (answer handle : ℕ) → reply ≡ Word answer → r.handle ≡ handle → answer ≢ handle → r.slot ≢ r.first
   moves answer handle says names d e = let both : answer ≡ handle_of r.object.kind r.first = (let g : ◌≡◌ {A = Answer} (Word answer) (Word (handle_of r.object.kind r.first)) = sym says ∙ r.answered in cc) in
       d (both ∙ ap (handle_of r.object.kind) (sym e) ∙ sym handle_is ∙ names)
-
-  gone : r.slot ≢ r.first → object_at new.heap r.slot ≡ None
-  gone d = ap (λ (h : Handles). object_at h.heap r.slot) r.rest ∙ housed_old old is r.slot (rounded_size r.size) (realloc_options r.flags) r.object r.named.there r.first r.gets r.heap r.resized d
 
 -- a reallocation that answers is of its handle, or gives another size
 pub answered : (old new : Handles) (handle size flags answer : ℕ) → AreHandles old → C.GlobalReAllocs old handle size flags answer new → answer ≢ 0 → (answer ≡ handle) ⊎ Resized old (ReAllocs handle size flags) (Word answer) new
@@ -229,22 +201,3 @@ one_slot_law old new handle size flags answer is step few some = elim (answered 
           absurd (moves old new is _ _ r _ _ refl named d
           (sym (stays old is _ r.object r.named.there _ (realloc_options _) _ (subst (λ n. rounded_size n ≤ REACH) (sym size_is) few) r.gets)))
     ]
-
-pub old_handle_law : C.OldHandleLaw
-old_handle_law old new handle size flags answer is step some d = elim (answered old new _ size flags _ is step some) [
-  | inl e ↦ absurd (d e)
-  | inr r ↦ is_bad r _ refl
-]
-  where
-    is_bad : Resized old (ReAllocs handle size flags) (Word answer) new → (p : Option ℕ) → slot_of_handle new handle ≡ p → slot_of_handle new handle ≡ None
-    is_bad r None e = e
-    is_bad r (Some q) e = absurd (there _ refl ((names_law new _ q).0.0 e))
-      where
-        named : r.handle ≡ handle
-        named = let e = r.asked in cc
-
-        there : (p : Option Object) → object_at new.heap q ≡ p → IsSomeAnd p (λ o. handle ≡ handle_of o.kind q) → ⊥
-        there None at h = h
-        there (Some o) at h =
-            let same = sym (slot_in_handle _ q) ∙ ap (λ n. n / 8) (sym h ∙ sym named ∙ handle_is old new is _ _ r) ∙ slot_in_handle r.object.kind _ in
-            let none : ◌≡◌ {A = Option Object} (Some o) None = sym at ∙ ap (object_at new.heap) same ∙ gone old new is _ _ r (moves old new is _ _ r _ _ refl named d) in cc

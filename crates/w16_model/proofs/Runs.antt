@@ -120,9 +120,6 @@ module _ (m : FinMap nat_cmp Attributes) where
       turn None e = absurd (no_owner slot e first lies)
       turn (Some q) e = e ∙ ap Some (one_owner slots are slot q first (owner_is slot q e) lies)
 
-pub owner_law : C.OwnerLaw
-owner_law handles slot first is = (owner_is _ slot first, is_owner _ _ is.runs slot first)
-
 -- What changes.
 
 -- the slots of an object that comes, of one beside it, and of one beside an object that goes

@@ -3,8 +3,8 @@ use Rattle.w16_model.proofs
 use proofs.Common as C
 use proofs.Gaps as M
 use Rattle.std.specs.List.{AllByRecursion as Each}
-use proofs.Common.{◌≡◌, ℕ, ◌+◌, ◌-◌, ◌<◌, ◌≤◌, ◌↔◌, ◌⊎◌, inl, inr, ⊎_elim, Bool, true, false, cond, ◌&&◌, nat_lt, IsTrue, List, [], ◌∷◌, map, filter, max, refl, sym, ap, ◌∙◌, subst, arith, Contains, suc, Block, Span, block_end, first_from, starts, spans_from, longest_hole, hole_after}
-use proofs.Common.{is_any, IsGapOf, IsHole}
+use proofs.Common.{◌≡◌, ℕ, ◌-◌, ◌<◌, ◌≤◌, ◌⊎◌, inl, inr, ⊎_elim, Bool, true, false, cond, ◌&&◌, nat_lt, IsTrue, List, [], ◌∷◌, map, filter, max, refl, sym, ap, ◌∙◌, subst, arith, Contains, suc, Block, Span, block_end, first_from, starts, spans_from, longest_hole}
+use proofs.Common.{is_any, IsGapOf}
 use proofs.Gaps.{Each-at, Member, last_to}
 use proofs.Maximal.{gap_around, gap_from}
 
@@ -106,17 +106,5 @@ module _ (lo hi : ℕ) (xs : List Block) (placed : C.ArePlaced lo hi xs) where
         (best.0, first_from is_any hi xs best.0, gap_begins is_any best.0 best.1 (omega (arith, best.2, some)), best.2);
   }
 
-  -- the hole directly after a block
-  pub hole_after_is : (x : Block) → Member x xs → (n : ℕ) → 0 < n → (IsHole lo hi xs (block_end x) (block_end x + n) → hole_after hi xs (block_end x) ≡ n) × (hole_after hi xs (block_end x) ≡ n → IsHole lo hi xs (block_end x) (block_end x + n))
-  hole_after_is x m n some = (
-    (λ hole. let is : (last_to is_any lo xs (block_end x) ≡ block_end x) × (first_from is_any hi xs (block_end x) ≡ block_end x + n) = gap_is is_any (block_end x) (block_end x + n) hole in omega (arith, is.1)),
-    (λ e. let to : first_from is_any hi xs (block_end x) ≡ block_end x + n = omega (arith, e, some) in
-        subst (λ v. IsHole lo hi xs (block_end x) v) to (gap_begins is_any (block_end x) (end_begins is_any x m refl) (omega (arith, e, some)))),
-  )
-
 pub gap_list_law : C.GapListLaw
 gap_list_law lo hi xs placed = (spans_are lo hi xs placed _, spans_are lo hi xs placed _)
-
-pub hole_after_law : C.HoleAfterLaw
-hole_after_law lo hi xs placed = M.All-from_Each (λ x. (n : ℕ) → 0 < n → IsHole lo hi xs (block_end x) (block_end x + n) ↔ (hole_after hi xs (block_end x) ≡ n)) xs
-    (M.Each-from (λ x. (n : ℕ) → 0 < n → IsHole lo hi xs _ _ ↔ (hole_after hi xs _ ≡ n)) xs (hole_after_is lo hi xs placed))

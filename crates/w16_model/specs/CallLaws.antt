@@ -1,21 +1,20 @@
--- The laws of each step on handles: what it keeps, what it counts, how it orders, what happens to objects that it isn't about. None says what
--- the definitions of the calls say: each counts, lists and compares once more.
+-- The laws of each step on handles on which other proofs stand: what it keeps, how it orders, what happens to objects that it isn't about. None
+-- says what the definitions of the calls say: each counts, lists and compares once more. `w16_laws` has those on which nothing stands.
 use Rattle.w16_model.specs
-use Rattle.std.specs.Prelude.{◌==◌, ◌&&◌, ◌≡◌, ◌≢◌, ℕ, ◌+◌, ◌*◌, ◌<◌, ◌≤◌, ◌⊎◌, ◌↔◌, Bool, true, false, not, if◌then◌else◌, List, [], ◌∷◌, ◌++◌, length, take, drop, sum_by, AllPairs, Option, Some, None, IsSomeAnd, is_some, option_map, unwrap_or, ◌/◌, map}
-use specs.declared.TheConstants.{REACH, GMEM_MOVEABLE, GMEM_NOCOMPACT, GMEM_MODIFY, LARGEST_SIZE}
+use Rattle.std.specs.Prelude.{◌==◌, ◌&&◌, ◌≡◌, ◌≢◌, ℕ, ◌+◌, ◌*◌, ◌<◌, ◌≤◌, ◌⊎◌, Bool, true, false, not, if◌then◌else◌, List, [], ◌∷◌, ◌++◌, length, take, drop, Option, Some, None, IsSomeAnd, is_some, option_map, unwrap_or}
+use specs.declared.TheConstants.{REACH, GMEM_MOVEABLE, GMEM_MODIFY, LARGEST_SIZE}
 use specs.Heap.{Heap, Object, object_at, bytes_at, is_in_order, is_pinned_object, size_of}
 use specs.Handles.{Handles, slot_of_handle, part_of_selector, selector_in, offset_in, slots_for, handle_of}
 use specs.Calls.HandleCommand.{GlobalAlloc, GlobalFree, GlobalLock, GlobalUnlock, GlobalCompact, GlobalLRUNewest, GlobalLRUOldest}
 use specs.Far.FarCommand.{Read, Write, Fill}
 use specs.Far.FarAnswer.{Bytes, Done, Fault}
-use specs.Outcomes.{Call, CallStep, IsNamed, counts_moved}
+use specs.Outcomes.{Call, CallStep, IsNamed}
 use specs.Outcomes.Call.{Calls, ReAllocs}
 use specs.Reallocation.{without_all, IsResized, LacksPlace, ReallocatesFewest}
-use specs.Calls.{Answer, HandleStep, AnswersAlloc, has_flag, rounded_size, is_shared}
+use specs.Calls.{Answer, has_flag, rounded_size}
 use specs.Far.{FarCommand, FarAnswer}
-use specs.Resizes.{LacksRun, realloc_options, rehoused, GlobalReAllocs, CanExtend}
+use specs.Resizes.{LacksRun, realloc_options, rehoused, GlobalReAllocs}
 use specs.{declared.Kind.TheVariants.Discardable, Bytes.part, Bytes.repeated, Discards.is_member, Changes.without, Law.StandsStill, Calls.Answer.Word, Owned.is_owned, Law.AreHandles, Law.FarStep}
-use Rattle.std.specs.FinMap as finmap
 
 -- Which object a call is about.
 
@@ -65,88 +64,21 @@ pub record KeepsContents (old new : Handles) : Type 0 where
   -- whether others share an object, and whose it is
   pub attributes : new.attributes ≡ old.attributes
 
--- every other call keeps them all
-abbrev pub ContentsLaw : Type 0
-ContentsLaw = (old new : Handles) (call : Call) (answer : Answer) → AreHandles old → may_change call ≡ false → CallStep old call answer new → KeepsContents old new
-
--- and each call keeps the slots and the memory
+-- each call keeps the slots and the memory
 abbrev pub SlotsLaw : Type 0
 SlotsLaw = (old new : Handles) (call : Call) (answer : Answer) → AreHandles old → CallStep old call answer new → (new.slots ≡ old.slots) × (new.heap.lo ≡ old.heap.lo) × (new.heap.hi ≡ old.heap.hi)
 
--- The bytes moved.
-
--- an object has bytes before and after, at two addresses, where this tells each object's slot after
-abbrev pub IsMoved : Heap → Heap → (ℕ → ℕ) → ℕ → Type 0
-IsMoved old new next q = (from : ℕ) × (to : ℕ) × (finmap.get old.places q ≡ Some from) × (finmap.get new.places (next q) ≡ Some to) × (from ≢ to)
-
-abbrev pub size_at : Heap → ℕ → ℕ
-size_at heap q = unwrap_or (option_map length (bytes_at heap q)) 0
-
--- n is the sum of the sizes of all such, each counted once
-pub record IsSumOfMoved (old new : Heap) (next : ℕ → ℕ) (n : ℕ) : Type 0 where
-  pub ids : List ℕ
-  pub once : AllPairs (λ a b. a ≡ b → ⊥) ids
-  pub each : (q : ℕ) → (is_member q ids ≡ true) ↔ IsMoved old new next q
-  pub sum : n ≡ sum_by (size_at old) ids
-
--- the three calls that count tell it, and 0 where they are refused; no other call changes it
-pub record CountsMoved (old : Handles) (call : Call) (answer : Answer) (new : Handles) : Type 0 where
-  pub counted : counts_moved call ≡ true → IsSumOfMoved old.heap new.heap (next_slot old call answer new) new.moved
-  pub refused : counts_moved call ≡ true → answer ≡ Word 0 → new.moved ≡ 0
-  pub other : counts_moved call ≡ false → new.moved ≡ old.moved
-
-abbrev pub MovedLaw : Type 0
-MovedLaw = (old new : Handles) (call : Call) (answer : Answer) → AreHandles old → CallStep old call answer new → CountsMoved old call answer new
-
 -- The order of use.
 
--- an object is the newest, or the oldest, and the others stand as they did
+-- an object is the newest, and the others stand as they did
 abbrev pub IsNewestOf : ℕ → List ℕ → List ℕ → Type 0
 IsNewestOf id old new = new ≡ without id old ++ id ∷ []
-
-abbrev pub IsOldestOf : ℕ → List ℕ → List ℕ → Type 0
-IsOldestOf id old new = new ≡ id ∷ without id old
-
--- of an object in the order, locked or not: a lock that is counted and GlobalLRUNewest make it the newest, GlobalLRUOldest the oldest
-abbrev pub UseLaw : Type 0
-UseLaw = (old new : Handles) (handle slot : ℕ) (o : Object) (answer : Answer) → AreHandles old → slot_of_handle old handle ≡ Some slot → object_at old.heap slot ≡ Some o → is_in_order (Some o) ≡ true
-    → (o.locks < 255 → HandleStep old (GlobalLock handle) answer new → IsNewestOf slot old.heap.order new.heap.order)
-    × (HandleStep old (GlobalLRUNewest handle) answer new → IsNewestOf slot old.heap.order new.heap.order)
-    × (HandleStep old (GlobalLRUOldest handle) answer new → IsOldestOf slot old.heap.order new.heap.order)
 
 -- what is discarded leaves the order, and nothing else changes in it
 pub record OnlyLeave (new : Heap) (order after : List ℕ) : Type 0 where
   pub gone : List ℕ
   pub without_bytes : (q : ℕ) → is_member q gone ≡ true → bytes_at new q ≡ None
   pub order_is : after ≡ without_all gone order
-
--- an allocated object is the newest of those that are left, where it is in the order
-abbrev pub NewObjectLaw : Type 0
-NewObjectLaw = (old new : Handles) (flags size handle : ℕ) → AreHandles old → (a : AnswersAlloc old flags size handle new) → is_in_order (object_at new.heap a.slot) ≡ true
-    → (left : List ℕ) × OnlyLeave new.heap old.heap.order left × IsNewestOf a.slot left new.heap.order
-
--- whether a call may give an object another place
-abbrev pub may_order : Call → Bool
-may_order (Calls (GlobalAlloc flags size)) = true
-may_order (Calls (GlobalLock handle)) = true
-may_order (Calls (GlobalLRUNewest handle)) = true
-may_order (Calls (GlobalLRUOldest handle)) = true
-may_order (Calls command) = false
-may_order (ReAllocs handle size flags) = true
-
--- every other call only takes out what has no bytes any more
-abbrev pub UnorderedLaw : Type 0
-UnorderedLaw = (old new : Handles) (call : Call) (answer : Answer) → AreHandles old → may_order call ≡ false → CallStep old call answer new → OnlyLeave new.heap old.heap.order new.heap.order
-
--- All that stay stand as they did, but for an object that the step is about, or one that comes new; this tells each object's slot after.
-abbrev pub OthersStand : (ℕ → Type 0) → (ℕ → ℕ) → Heap → Heap → Type 0
-OthersStand is_about next old new =
-    OnlyLeave new old.order new.order
-    ⊎ ((id : ℕ) × (is_about id ⊎ (object_at old id ≡ None)) × OnlyLeave new (without id old.order) (without (next id) new.order))
-
--- and every call leaves those that it isn't about so
-abbrev pub OthersOrderLaw : Type 0
-OthersOrderLaw = (old new : Handles) (call : Call) (answer : Answer) → AreHandles old → CallStep old call answer new → OthersStand (IsAbout old call) (next_slot old call answer new) old.heap new.heap
 
 -- Objects that a call isn't about.
 
@@ -160,10 +92,6 @@ IsKeptOrDiscarded old new q =
 abbrev pub BystandersLaw : Type 0
 BystandersLaw = (old new : Handles) (call : Call) (answer : Answer) (q : ℕ) → AreHandles old → CallStep old call answer new → is_some (object_at old.heap q) ≡ true → (IsAbout old call q → ⊥) → IsKeptOrDiscarded old.heap new.heap q
 
--- and it keeps its attributes: who shares it, whose it is and how many slots it has
-abbrev pub AttributesLaw : Type 0
-AttributesLaw = (old new : Handles) (call : Call) (answer : Answer) (q : ℕ) → AreHandles old → CallStep old call answer new → is_some (object_at old.heap q) ≡ true → (IsAbout old call q → ⊥) → finmap.get new.attributes q ≡ finmap.get old.attributes q
-
 -- whether a call may move a fixed or locked object, or take it away: its own reallocation with GMEM_MOVEABLE to a size above 0, and GlobalFree
 abbrev pub may_move_own : Call → Bool
 may_move_own (Calls (GlobalFree handle)) = true
@@ -174,17 +102,6 @@ may_move_own (ReAllocs handle size flags) = has_flag flags GMEM_MOVEABLE && (not
 abbrev pub PinnedStayLaw : Type 0
 PinnedStayLaw = (old new : Handles) (call : Call) (answer : Answer) (q : ℕ) → AreHandles old → CallStep old call answer new → IsSomeAnd (object_at old.heap q) (λ o. is_pinned_object o ≡ true)
     → (may_move_own call ≡ true → IsAbout old call q → ⊥) → StandsStill old.heap new.heap q
-
--- whether a call may move objects that it isn't about: one that asks for room, without GMEM_NOCOMPACT
-abbrev pub may_move_others : Call → Bool
-may_move_others (Calls (GlobalAlloc flags size)) = not (has_flag flags GMEM_NOCOMPACT)
-may_move_others (Calls (GlobalCompact size)) = true
-may_move_others (Calls command) = false
-may_move_others (ReAllocs handle size flags) = not (has_flag flags GMEM_NOCOMPACT)
-
--- every other leaves them where they stand
-abbrev pub StillLaw : Type 0
-StillLaw = (old new : Handles) (call : Call) (answer : Answer) (q : ℕ) → AreHandles old → CallStep old call answer new → may_move_others call ≡ false → is_some (object_at old.heap q) ≡ true → (IsAbout old call q → ⊥) → StandsStill old.heap new.heap q
 
 -- Far accesses.
 
@@ -220,10 +137,6 @@ FarEffect old command answer new = ⊥
 abbrev pub FarEffectLaw : Type 0
 FarEffectLaw = (old new : Handles) (command : FarCommand) (answer : FarAnswer) → AreHandles old → FarStep old command answer new → FarEffect old command answer new
 
--- what was written is read back
-abbrev pub ReadBackLaw : Type 0
-ReadBackLaw = (old mid new : Handles) (pointer : ℕ) (slice : List ℕ) (answer : FarAnswer) → AreHandles old → FarStep old (Write pointer slice) Done mid → FarStep mid (Read pointer (length slice)) answer new → answer ≡ Bytes slice
-
 -- GlobalReAlloc.
 
 -- Fewest discards, where an object's handle and a size are given: an answered one has discarded as few as it can; a refused one has changed
@@ -239,10 +152,6 @@ ReallocFewest old handle size flags answer new = (slot : ℕ) → slot_of_handle
 abbrev pub ResizeLaw : Type 0
 ResizeLaw = (old new : Handles) (handle size flags answer : ℕ) → AreHandles old → GlobalReAllocs old handle size flags answer new → AreHandles new
 
--- where it is NULL the heap is the same
-abbrev pub NullLaw : Type 0
-NullLaw = (old new : Handles) (handle size flags : ℕ) → AreHandles old → GlobalReAllocs old handle size flags 0 new → new.heap ≡ old.heap
-
 -- one that asks for a size discards as few as it can, and is NULL only where the object lacks slots, or would get more bytes and lacks a
 -- place for them
 abbrev pub ResizeFewestLaw : Type 0
@@ -251,27 +160,6 @@ ResizeFewestLaw = (old new : Handles) (handle size flags answer : ℕ) → AreHa
 -- one whose bytes a single selector reaches then keeps its handle
 abbrev pub OneSlotLaw : Type 0
 OneSlotLaw = (old new : Handles) (handle size flags answer : ℕ) → AreHandles old → GlobalReAllocs old handle size flags answer new → rounded_size size ≤ REACH → answer ≢ 0 → answer ≡ handle
-
--- the old handle is bad once there is another
-abbrev pub OldHandleLaw : Type 0
-OldHandleLaw = (old new : Handles) (handle size flags answer : ℕ) → AreHandles old → GlobalReAllocs old handle size flags answer new → answer ≢ 0 → answer ≢ handle → slot_of_handle new handle ≡ None
-
--- an object keeps its handle where its own slots and those directly after them are enough
-abbrev pub ExtendedLaw : Type 0
-ExtendedLaw = (old new : Handles) (handle size flags answer slot : ℕ) → AreHandles old → GlobalReAllocs old handle size flags answer new → slot_of_handle old handle ≡ Some slot
-    → CanExtend old slot (slots_for (rounded_size size)) → answer ≢ 0 → answer ≡ handle
-
--- at another handle it is shared with other tasks as it was
-abbrev pub SharedLaw : Type 0
-SharedLaw = (old new : Handles) (handle size flags answer slot : ℕ) → AreHandles old → GlobalReAllocs old handle size flags answer new → slot_of_handle old handle ≡ Some slot
-    → answer ≢ 0 → answer ≢ handle → is_shared new (answer / 8) ≡ is_shared old slot
-
--- and one in the order of use keeps its place there: the order has its new slot where the old one stood, and has lost what was discarded
-abbrev pub PlaceLaw : Type 0
-PlaceLaw = (old new : Handles) (handle size flags answer slot : ℕ) → AreHandles old → GlobalReAllocs old handle size flags answer new → slot_of_handle old handle ≡ Some slot
-    → answer ≢ 0 → answer ≢ handle → is_member slot old.heap.order ≡ true
-    → (gone : List ℕ) × ((q : ℕ) → is_member q gone ≡ true → bytes_at new.heap q ≡ None)
-    × (new.heap.order ≡ map (λ q. if q == slot then answer / 8 else q) (without_all gone old.heap.order))
 
 -- a handle's object is another at another size: so many bytes, the old ones first, and its kind and its locks
 abbrev pub HasNewSize : Handles → ℕ → Bool → ℕ → Object → Type 0

@@ -1,11 +1,10 @@
 -- Reallocation, told by what it leaves: of the object, of the others, of where they stand, and when it is refused. Nothing here says how
 -- room is made.
 use Rattle.w16_model.specs
-use Rattle.std.specs.Prelude.{◌≡◌, ◌≢◌, ℕ, ◌+◌, ◌-◌, ◌<◌, ◌≤◌, ◌⊎◌, Bool, true, false, not, ◌&&◌, ◌||◌, if◌then◌else◌, IsTrue, IfOk, IfSome, IsSomeAnd, List, [], ◌∷◌, ◌++◌, length, take, drop, filter, map, All, AllPairs, Option, Some, Ok, Err, is_some, unwrap_or}
+use Rattle.std.specs.Prelude.{◌≡◌, ◌≢◌, ℕ, ◌+◌, ◌-◌, ◌<◌, ◌≤◌, ◌⊎◌, Bool, true, false, not, ◌&&◌, ◌||◌, if◌then◌else◌, IsTrue, IfOk, IfSome, IsSomeAnd, List, [], ◌∷◌, ◌++◌, length, take, drop, filter, map, Option, Some, Ok, Err, is_some, unwrap_or}
 use specs.declared.Hold.TheVariants.{Loose}
-use specs.Gap.{is_pinned, is_loose, is_any, begins_in, Misses, ArePlaced, IsClear}
-use specs.Arrangement.{IsGap}
-use specs.Discards.{eligible, is_member, is_about, room_for, snapshot}
+use specs.Gap.{is_any, IsClear}
+use specs.Discards.{eligible, is_member, is_about}
 use specs.Heap.{Heap, Object, IsHeap, blocks, object_at, size_of, is_fixed, is_discardable, is_in_order, is_pinned_object}
 use specs.{declared.Block.Block, declared.Kind.Kind, declared.RoomOptions.RoomOptions, Bytes.repeated, Changes.without, Request.Reallocates, OneObject.after_modify, OneObject.after_discard, Law.KeepsOthers, Law.KeepsAddresses, Law.StandsStill, Fewest.DiscardsFewest, Fewest.LacksRoom}
 use Rattle.std.specs.FinMap as finmap
@@ -100,26 +99,6 @@ counted_loose h x = record x { hold = if is_about h x.id then Loose else x.hold 
 abbrev pub loosened : Option ℕ → List Block → List Block
 loosened h xs = map (counted_loose h) xs
 
--- whether a block is counted: it is loose, none of these, and not the object's
-abbrev pub is_counted : List ℕ → Option ℕ → Block → Bool
-is_counted ids h x = is_loose x && not (is_member x.id ids || is_about h x.id)
-
--- each loose block, without these and the object, has a place in the gap where it stands, and no two of them share a byte; the gaps are
--- those of the heap with the object loose
-pub record IsArrangementWithout (lo hi : ℕ) (xs : List Block) (ids : List ℕ) (h : Option ℕ) (place : Block → ℕ) : Type 0 where
-  pub kept : (a b : ℕ) → IsGap lo hi (loosened h xs) a b → All (λ x. IsTrue (is_counted ids h x) → IsTrue (begins_in a b x) → (a ≤ place x) × (place x + x.size ≤ b)) xs
-  pub apart : AllPairs (λ x y. IsTrue (is_counted ids h x) → IsTrue (is_counted ids h y) → Misses (place x) x.size (place y) (place y + y.size)) xs
-
--- an interval without a byte of these or of a pinned block
-pub record IsFreeWithout (lo hi : ℕ) (xs : List Block) (ids : List ℕ) (h : Option ℕ) (place : Block → ℕ) (a b : ℕ) : Type 0 where
-  pub clear : IsClear is_pinned lo hi (loosened h xs) a b
-  pub misses : All (λ x. IsTrue (is_counted ids h x) → Misses (place x) x.size a b) xs
-
--- n is the length of the longest free stretch of any such arrangement, and 0 where there is none
-pub record IsLongestWithout (lo hi : ℕ) (xs : List Block) (ids : List ℕ) (h : Option ℕ) (n : ℕ) : Type 0 where
-  pub none_longer : (place : Block → ℕ) (a b : ℕ) → IsArrangementWithout lo hi xs ids h place → IsFreeWithout lo hi xs ids h place a b → b - a ≤ n
-  pub one_as_long : 0 < n → (place : Block → ℕ) × (a : ℕ) × (b : ℕ) × IsArrangementWithout lo hi xs ids h place × IsFreeWithout lo hi xs ids h place a b × (b - a ≡ n)
-
 -- The laws.
 
 -- a reallocation, a change of kind and a discard leave a heap
@@ -153,7 +132,3 @@ abbrev pub KindLaw : Type 0
 KindLaw = (old : Heap) (id : ℕ) (kind : Kind) → IsHeap old → IfSome (object_at old id) (λ o.
     ((is_fixed o.kind || is_fixed kind) ≡ true → after_modify old id kind ≡ Err refusals.Fixed)
     × ((is_fixed o.kind || is_fixed kind) ≡ false → (new : Heap) × (after_modify old id kind ≡ Ok new) × ChangesKind old id o kind new))
-
--- with the object loose and left out, and the first k that may be discarded left out too, room is the longest free stretch
-abbrev pub LeftOutLaw : Type 0
-LeftOutLaw = (lo hi : ℕ) (xs : List Block) (order : List ℕ) (k : ℕ) (h : Option ℕ) → ArePlaced lo hi xs → IsLongestWithout lo hi xs (take k (eligible xs order h)) h (room_for (snapshot lo hi xs order) k h)

@@ -2,7 +2,7 @@
 -- object, one beside a local heap, and one that a second selector reaches.
 use Rattle.w16_machine.proofs.Common as C
 use Rattle.w16_loading.proofs.Common.{REACH}
-use Rattle.w16_machine.proofs.Common.{◌≡◌, ℕ, ◌+◌, ◌-◌, ◌*◌, ◌/◌, ◌==◌, ◌&&◌, nat_le, false, true, cond, List, [], ◌∷◌, Option, Some, None, is_some, option_map, refl, sym, ap, ◌∙◌, Moveable, Read, Write, object_at, Table, bytes_in, OfFar, Event, OfLoading, LocalHeap, World}
+use Rattle.w16_machine.proofs.Common.{◌≡◌, ℕ, ◌+◌, ◌-◌, ◌*◌, ◌/◌, ◌==◌, ◌&&◌, nat_le, false, true, cond, List, [], ◌∷◌, Option, Some, None, is_some, option_map, refl, sym, ap, ◌∙◌, Moveable, Read, Write, object_at, Table, bytes_in, OfFar, Event, LocalHeap, World}
 use Rattle.w16_model.proofs.Common.{if◌then◌else◌, slice_get, Part, far_pointer, handle_of, owner_of, part_of_selector, selector_of}
 use Rattle.w16_loading.specs.Replies.Reply.{Bytes, Done, Dword, Word}
 use Rattle.w16_writes.specs.LastWrite.{Access, Has, IsUndisturbed, Position, Reads, Writes, byte_at, byte_in, is_in_range, place_at, position_after}
@@ -19,13 +19,13 @@ second = record { slot = 32; entry = None; offset = 1 }
 
 -- steps that write, read and compact
 abbrev writing : ℕ → ℕ → List ℕ → World → Event
-writing selector offset bytes w = record { command = OfLoading (OfFar (Write (far_pointer selector offset) bytes)); reply = Done; after = w }
+writing selector offset bytes w = record { command = OfFar (Write (far_pointer selector offset) bytes); reply = Done; after = w }
 
 abbrev reading : ℕ → ℕ → List ℕ → World → Event
-reading selector offset bytes w = record { command = OfLoading (OfFar (Read (far_pointer selector offset) (C.length bytes))); reply = Bytes bytes; after = w }
+reading selector offset bytes w = record { command = OfFar (Read (far_pointer selector offset) (C.length bytes)); reply = Bytes bytes; after = w }
 
 abbrev compacting : World → Event
-compacting w = record { command = OfLoading (C.OfHandles (C.GlobalCompact 32)); reply = Dword 32; after = w }
+compacting w = record { command = C.OfHandles (C.GlobalCompact 32); reply = Dword 32; after = w }
 
 -- what a selector reaches
 reaches : (w : World) (selector : ℕ) {slot : ℕ} → (selector == selector_of (selector / 8)) ≡ true → owner_of w.loading.handles.attributes (selector / 8) ≡ Some slot → part_of_selector w.loading.handles selector ≡ Some (record { slot = slot; number = selector / 8 - slot })
@@ -57,7 +57,7 @@ module _ (before after : World) (h : HasObject before 32) (g : HasObject after 3
 module _ (before after : World) (h : HasObject before 32) (g : HasObject after 40) where
   -- the handle of slot 32 is given, and that of slot 40 is answered
   abbrev resizing : Event
-  resizing = record { command = OfLoading (C.OfResizes (C.GlobalReAlloc 262 131104 0)); reply = Word 326; after = after }
+  resizing = record { command = C.OfResizes (C.GlobalReAlloc 262 131104 0); reply = Word 326; after = after }
 
   abbrev slot_by : ℕ → Option C.Object → Option ℕ
   slot_by handle p = elim p [ Some o ↦ if handle == handle_of o.kind (handle / 8) then Some (handle / 8) else None | None ↦ None ]

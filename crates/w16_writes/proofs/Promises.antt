@@ -2,8 +2,10 @@
 use Rattle.std.proofs.Common.{List, [], ◌∷◌, ◌++◌, refl}
 use Rattle.std.specs.List.{AllByRecursion as Each}
 use Rattle.w16_machine.proofs.{Common.Format, Common.Reply, Common.World, Common.IsWorld, Common.Each-from_All, Apart.apart_law, Bystanders.step_spares_law, Discards.step_fewest, Runs.each_append, Worlds.world_law}
-use Rattle.w16_machine.specs.Machine.{Command, Event, Run, Step, Steps}
-use Rattle.w16_machine.specs.Law.{EachStep, IsCommand}
+use Rattle.w16_machine.specs.Machine.{Event, Run, Step, Steps}
+use Rattle.w16_loading.specs.Families.{Command}
+use Rattle.w16_machine.specs.Law.{EachStep}
+use Rattle.w16_loading.specs.Law.{IsCommand}
 use Rattle.w16_writes.specs.{LastWrite.AllKeepWritten, LastWrite.KeepsWritten, Promises.Promises, Promises.RunPromisesLaw}
 use Rattle.w16_writes.proofs.{Runs.reads_back_law, Steps.step_law}
 

@@ -1,14 +1,14 @@
 -- Steps of loading: what they leave of the bytes of global objects, and what far accesses put there and read.
 use Rattle.w16_loading.proofs.Common as C
 use Rattle.w16_loading.proofs.Common.{REACH, ◌≡◌, ℕ, ◌+◌, ◌*◌, ◌⊎◌, inl, inr, true, IsSomeAnd, List, length, Option, Some, None, is_some, refl, sym, ap, ◌∙◌, subst, arith, drop, ◌<◌, cases_eq, part, object_at, bytes_at, bytes_in, Handles, selector_in, offset_in, FarAnswer, FarCommand}
-use Rattle.w16_loading.proofs.Common.{Write, Fill, Answers, FetchesFrom, Fills, told, gives, IsLoadingWorld, LoadingWorld, LoadingCommand, OfResizes, OfFar, Reply, Calls, call_of}
+use Rattle.w16_loading.proofs.Common.{Write, Fill, Answers, FetchesFrom, Fills, told, gives, IsLoadingWorld, LoadingWorld, Command, OfResizes, OfFar, Reply, Calls, call_of}
 use Rattle.w16_loading.proofs.{Cases.access_cases, Cases.lock_cases, CallsKept.answered, FetchWorlds.fetched_world, Fillings.fetch_outcome, Spared.fetch_spares}
 use Rattle.w16_model.proofs.Common.{slice_get, length-take, Done, FarEffect, IsWritten, Reaches, next_slot, Part, part_of_selector, Word}
 use Rattle.w16_model.proofs.FarLaws.{far_effect_law}
 use Rattle.std.proofs.lemmas.Option.{slice_get_within}
 use Rattle.w16_model.specs.Law.{FarStep as HandlesFarStep}
 use Rattle.w16_loading.specs.Answers.{StepOver}
-use Rattle.w16_machine.proofs.Common.{Bytes, Fault, Read, FetchFault, Answer, Format, bystanders_law, OfLoading}
+use Rattle.w16_machine.proofs.Common.{Bytes, Fault, Read, FetchFault, Answer, Format, bystanders_law}
 use Rattle.w16_writes.specs.LastWrite.{Access, byte_in, read, slot_after_step, written}
 use Rattle.w16_writes.proofs.Bytes.{some_such, none_or, which, only, Agree, agree_new, agree_same, get-part, get-written, get-unwritten}
 use Rattle.w16_writes.proofs.Calls.{HeapsAgree, call_agrees, goes_free, had_no_object, kept_agrees, no_object}
@@ -37,8 +37,8 @@ pub record Keeps (old new : Handles) (to : ℕ → ℕ) (puts gets : Option Acce
   -- another slot had no object
   pub free : (slot : ℕ) → (to slot ≡ slot) ⊎ (object_at old.heap (to slot) ≡ None)
 
-abbrev pub KeepsSegments : Handles → Handles → LoadingCommand → Reply → Type 0
-KeepsSegments old new command reply = Keeps old new (λ q. slot_after_step old (OfLoading command) reply new q) (written (OfLoading command) reply) (read (OfLoading command) reply)
+abbrev pub KeepsSegments : Handles → Handles → Command → Reply → Type 0
+KeepsSegments old new command reply = Keeps old new (λ q. slot_after_step old command reply new q) (written command reply) (read command reply)
 
 -- a step that is no answered access
 quiet : {old new : Handles} {to : ℕ → ℕ} → ((q : ℕ) → Agree (bytes_at old.heap q) (bytes_at new.heap (to q))) → ((q : ℕ) → (to q ≡ q) ⊎ (object_at old.heap (to q) ≡ None)) → Keeps old new to None None
@@ -238,7 +238,7 @@ module _ (honest : Type 0) (format : Format) (old new : LoadingWorld) (is : IsLo
       after (Some faults.Damaged) next a = a
 
   -- a step that is about no object
-  stands_by : (command : LoadingCommand) → StepOver honest format old command reply new → (C.IsStepAbout old.handles command q → ⊥) → Agrees new
+  stands_by : (command : Command) → StepOver honest format old command reply new → (C.IsStepAbout old.handles command q → ⊥) → Agrees new
   stands_by command step out = elim (which (object_at old.handles.heap q)) [
     | inl e ↦ had_no_object e
     | inr (o, e) ↦ elim (bystanders_law honest format old new command reply q is step (ap is_some e) out) [ inl kept ↦ kept_agrees old.handles.heap new.handles.heap q kept | inr gone ↦ no_object gone.0 ]
@@ -248,13 +248,14 @@ module _ (honest : Type 0) (format : Format) (old new : LoadingWorld) (is : IsLo
   abbrev answers : Answers
   answers = told honest format old.files old.failures new.failures
 
-  idle : {command : LoadingCommand} {reply : Reply} → StepOver honest format old command reply new → ((q : ℕ) → C.IsStepAbout old.handles command q → ⊥) → HandlesAgree old.handles new.handles
+  idle : {command : Command} {reply : Reply} → StepOver honest format old command reply new → ((q : ℕ) → C.IsStepAbout old.handles command q → ⊥) → HandlesAgree old.handles new.handles
   idle {command} {reply} step out q = stands_by honest format old new is reply q command step (out q)
 
-  pub loading_keeps : (command : LoadingCommand) (reply : Reply) → StepOver honest format old command reply new → KeepsSegments old.handles new.handles command reply
+  pub loading_keeps : (command : Command) (reply : Reply) → StepOver honest format old command reply new → KeepsSegments old.handles new.handles command reply
   loading_keeps (C.OfHandles command) reply step = calm (λ q. let f = step.step in let c = answered old is command reply f.0 f.1 in called honest format old new is reply q command c.0 f.0 c.1 (ap handles_of f.2))
   loading_keeps (OfResizes command) reply step = let f = step.step in subst (λ (h : Handles). KeepsSegments old.handles h (OfResizes command) reply) (sym (ap handles_of f.2)) (resizes_keep old.handles f.0 is.handles command reply f.1)
   loading_keeps (OfFar command) reply step = far_keeps_by (far_made answers old is command reply (record new { failures = old.failures }) step.step)
   loading_keeps (C.OfModules command) reply step = calm (idle step (λ q about. about))
   loading_keeps (C.OfResources (C.LockResource handle)) reply step = calm (λ q. lock_agrees honest format old (record new { failures = old.failures }) is reply q answers handle step.step)
   loading_keeps (C.OfResources other) reply step = calm (idle step (λ q about. about))
+  loading_keeps (C.OfLocals command) reply step = absurd step.step

@@ -3,7 +3,7 @@ use Rattle.w16_machine.proofs as machine
 use Rattle.w16_writes.proofs
 use machine.Common as C
 use machine.Common.{◌≡◌, ◌≢◌, ℕ, ◌+◌, ◌<◌, ◌≤◌, ◌⊎◌, inl, inr, Bool, true, false, cond, ◌&&◌, IsSomeAnd, List, [], Option, Some, None, is_some, option_map, refl, sym, ap, ◌∙◌, subst, false≢true, bytes_in, object_at, Table, Reply, World, IsWorld, LocalHeap, current_heap, local_in}
-use machine.Common.{segment_bytes, Event, Step, OfLoading, arith}
+use machine.Common.{segment_bytes, Event, Step, arith}
 use machine.LocalFacts.{current_there, local_here, local_there, there_local}
 use machine.{Bystanders.other_same, LocalFrame.frame_law, LocalGoes.goes_law, LocalLonger.leaves_longer, Worlds.world_law}
 use Rattle.std.specs.List.{slice_get}
@@ -83,12 +83,12 @@ placed w is a has p byte h =
 
 -- A step of loading: where a position is there before and after, it lies at one place of its object, since the table of a local heap that stays is
 -- the same, and its segment has its slot still.
-module _ (honest : Type 0) (format : C.Format) (old new : World) (command : C.LoadingCommand) (reply : Reply) (is : IsWorld old) (now : IsWorld new) (step : Step honest format old (OfLoading command) reply new) where
+module _ (honest : Type 0) (format : C.Format) (old new : World) (command : C.Command) (reply : Reply) (is : IsWorld old) (now : IsWorld new) (step : C.LoadingStep honest format old command reply new) where
   abbrev event : Event
-  event = record { command = OfLoading command; reply = reply; after = new }
+  event = record { command = command; reply = reply; after = new }
 
   abbrev next : ℕ → ℕ
-  next slot = slot_after_step old.loading.handles (OfLoading command) reply new.loading.handles slot
+  next slot = slot_after_step old.loading.handles command reply new.loading.handles slot
 
   segments : KeepsSegments old.loading.handles new.loading.handles command reply
   segments = loading_keeps honest format old.loading new.loading is.loading command reply step.0
@@ -116,8 +116,8 @@ module _ (honest : Type 0) (format : C.Format) (old new : World) (command : C.Lo
   -- so what it leaves of segments it leaves of positions
   loading_kept : KeepsWritten old event
   loading_kept = record {
-    written = placed new now (written (OfLoading command) reply) segments.put;
-    read = placed old is (read (OfLoading command) reply) segments.got;
+    written = placed new now (written command reply) segments.put;
+    read = placed old is (read command reply) segments.got;
     kept = λ p was there out.
         let l = lies old is p was in
         let q = position_after old event p in
@@ -125,7 +125,7 @@ module _ (honest : Type 0) (format : C.Format) (old new : World) (command : C.Lo
         let same : m.at ≡ l.at = only m.place (one_place p.slot p.entry p.offset was there ∙ l.place) in
         let still : byte_in (segment_bytes old p.slot) m.at ≡ byte_at old p = ap (byte_in (segment_bytes old p.slot)) same ∙ sym l.byte in
         m.byte ∙ segments.kept p.slot m.at (ap is_some still ∙ was) (ap is_some (sym m.byte) ∙ there)
-        (λ byte h. out byte (some_as (written (OfLoading command) reply) (from_place new q m byte there) h))
+        (λ byte h. out byte (some_as (written command reply) (from_place new q m byte there) h))
         ∙ still;
   }
 
@@ -196,9 +196,9 @@ module _ (old new : World) (command : C.LocalCommand) (reply : Reply) (is : IsWo
       ap (byte_of entry offset) f ∙ same ∙ sym (ap (byte_of entry offset) e)
 
 pub step_law : (honest : Type 0) → StepLaw honest
-step_law honest format old new (OfLoading command) reply is known step = loading_kept honest format old new command reply is (world_law honest format old new (OfLoading command) reply is known step) step
 step_law honest format old new (C.OfLocals command) reply is known step = record {
   written = λ p byte h. absurd h;
   read = λ p byte h. absurd h;
   kept = λ p was there out. local_kept old new command reply is (world_law honest format old new (C.OfLocals command) reply is known step) step p.slot p.entry _ was there;
 }
+step_law honest format old new command reply is known step = loading_kept honest format old new command reply is (world_law honest format old new command reply is known step) step

@@ -2,9 +2,11 @@
 use Rattle.std.specs.Prelude.{◌≡◌, ℕ, ◌+◌, ◌*◌, Bool, true, false, ◌&&◌, if◌then◌else◌, nat_le, nat_lt, List, [], ◌∷◌, ◌++◌, All, Option, Some, None, option_map, is_some, IsSomeAnd, slice_get}
 use Rattle.w16_model.specs.Far.FarCommand.{Read, Write, Fill}
 use Rattle.w16_model.specs.{Bytes.repeated, declared.TheConstants.REACH, CallLaws.next_slot, Handles.Handles, Handles.part_of_selector, Handles.selector_in, Handles.offset_in, Heap.bytes_at, Table.Table}
-use Rattle.w16_loading.specs.{Bystanders.call_of, Families.LoadingCommand.OfFar, Families.LoadingCommand.OfResizes, File.Format, Replies.Reply, Replies.answer_in, Replies.Reply.Bytes, Replies.Reply.Done}
-use Rattle.w16_machine.specs.Machine.{Command, Event, Run, Step}
-use Rattle.w16_machine.specs.{Law.IsWorld, Local.segment_bytes, Local.heap_of, Local.local_in, Machine.Command.OfLoading, World.World, Law.EachStep, Law.IsCommand}
+use Rattle.w16_loading.specs.{Bystanders.call_of, Families.Command.OfFar, Families.Command.OfResizes, File.Format, Replies.Reply, Replies.answer_in, Replies.Reply.Bytes, Replies.Reply.Done}
+use Rattle.w16_machine.specs.Machine.{Event, Run, Step}
+use Rattle.w16_loading.specs.Families.{Command}
+use Rattle.w16_machine.specs.{Law.IsWorld, Local.segment_bytes, Local.heap_of, Local.local_in, World.World, Law.EachStep}
+use Rattle.w16_loading.specs.Law.{IsCommand}
 use Rattle.std.specs.FinMap as finmap
 
 -- A position is an offset in an object: in that of a slot, or in that of an entry of the local heap in the slot's object.
@@ -45,7 +47,7 @@ place_at w p = elim p.entry [
 
 -- the slot that an object has after a step: that of the handle answered, where its handle was given to a reallocation, else its own
 abbrev pub slot_after_step : Handles → Command → Reply → Handles → ℕ → ℕ
-slot_after_step old (OfLoading (OfResizes command)) reply new slot = elim (answer_in reply) [ None ↦ slot | Some answer ↦ next_slot old (call_of command) answer new slot ]
+slot_after_step old (OfResizes command) reply new slot = elim (answer_in reply) [ None ↦ slot | Some answer ↦ next_slot old (call_of command) answer new slot ]
 slot_after_step old command reply new slot = slot
 
 -- a position after a step: the same offset in the same object
@@ -66,13 +68,13 @@ pub record Access : Type 0 where
 
 -- the bytes that an answered write or fill puts
 abbrev pub written : Command → Reply → Option Access
-written (OfLoading (OfFar (Write pointer bytes))) Done = Some (record { pointer = pointer; bytes = bytes })
-written (OfLoading (OfFar (Fill pointer count byte))) Done = Some (record { pointer = pointer; bytes = repeated count byte })
+written (OfFar (Write pointer bytes)) Done = Some (record { pointer = pointer; bytes = bytes })
+written (OfFar (Fill pointer count byte)) Done = Some (record { pointer = pointer; bytes = repeated count byte })
 written command reply = None
 
 -- and those that an answered read gives
 abbrev pub read : Command → Reply → Option Access
-read (OfLoading (OfFar (Read pointer count))) (Bytes bytes) = Some (record { pointer = pointer; bytes = bytes })
+read (OfFar (Read pointer count)) (Bytes bytes) = Some (record { pointer = pointer; bytes = bytes })
 read command reply = None
 
 -- an access, by any of its object's selectors, has this byte at a position, which is there in this world

@@ -2,7 +2,8 @@
 use Rattle.std.specs.Prelude.{List, All}
 use Rattle.w16_loading.specs.File.{Format}
 use Rattle.w16_machine.specs.Machine.{Event, Run, Step}
-use Rattle.w16_machine.specs.{World.World, Law.IsWorld, Law.ShareNoByte, Bystanders.KeepsAddresses, Bystanders.KeepsDS, Bystanders.SparesBytes, Fewest.AreFewest, Law.EachStep, Law.IsCommand}
+use Rattle.w16_machine.specs.{World.World, Law.IsWorld, Law.ShareNoByte, Bystanders.KeepsAddresses, Bystanders.KeepsDS, Bystanders.SparesBytes, Fewest.AreFewest, Law.EachStep}
+use Rattle.w16_loading.specs.Law.{IsCommand}
 use Rattle.w16_writes.specs.LastWrite.{AllKeepWritten, ReadsBack}
 
 pub record Promises (old : World) (events : List Event) : Type 0 where

@@ -1,5 +1,5 @@
-use Rattle.w16_loading.proofs.Values.{bound_alike_law}
 use Rattle.w16_laws.proofs.loading.loads_bind_by_names_alone.Goals as goal
+use Rattle.w16_laws.proofs.Loads.{bound_alike_law}
 
 pub returns : goal.returns
 returns c = bound_alike_law

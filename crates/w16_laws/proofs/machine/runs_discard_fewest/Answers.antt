@@ -1,5 +1,5 @@
-use Rattle.w16_machine.proofs.Worlds.{fewest_law}
 use Rattle.w16_laws.proofs.machine.runs_discard_fewest.Goals as goal
+use Rattle.w16_laws.proofs.Runs.{fewest_law}
 
 pub returns : goal.returns
 returns g c = fewest_law _

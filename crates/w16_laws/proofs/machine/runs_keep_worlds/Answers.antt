@@ -1,5 +1,5 @@
-use Rattle.w16_machine.proofs.Worlds.{run_files_law, run_world_law}
 use Rattle.w16_laws.proofs.machine.runs_keep_worlds.Goals as goal
+use Rattle.w16_laws.proofs.Runs.{run_files_law, run_world_law}
 
 pub returns-clause-worlds : goal.returns-clause-worlds
 returns-clause-worlds g c = run_world_law _

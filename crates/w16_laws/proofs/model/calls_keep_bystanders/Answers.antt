@@ -1,5 +1,6 @@
-use Rattle.w16_model.proofs.Bystanders.{bystanders_law, attributes_law, pinned_law, still_law}
+use Rattle.w16_model.proofs.Bystanders.{bystanders_law, pinned_law}
 use Rattle.w16_laws.proofs.model.calls_keep_bystanders.Goals as goal
+use Rattle.w16_laws.proofs.Bystanders.{attributes_law, still_law}
 
 pub returns-clause-objects : goal.returns-clause-objects
 returns-clause-objects c = bystanders_law

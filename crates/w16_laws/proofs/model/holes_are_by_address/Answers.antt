@@ -1,5 +1,5 @@
-use Rattle.w16_model.proofs.Laid.{rising_law}
 use Rattle.w16_laws.proofs.model.holes_are_by_address.Goals as goal
+use Rattle.w16_laws.proofs.Holes.{rising_law}
 
 pub returns : goal.returns
 returns c = rising_law

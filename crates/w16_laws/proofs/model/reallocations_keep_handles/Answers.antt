@@ -1,6 +1,7 @@
 use Rattle.w16_laws.proofs.{NewHandles.extended_law, NewHandles.shared_law, NewHandles.place_law}
-use Rattle.w16_model.proofs.ResizedHandles.{resize_law, null_law, resize_fewest_law, one_slot_law, old_handle_law}
+use Rattle.w16_model.proofs.ResizedHandles.{resize_law, resize_fewest_law, one_slot_law}
 use Rattle.w16_laws.proofs.model.reallocations_keep_handles.Goals as goal
+use Rattle.w16_laws.proofs.OldHandles.{null_law, old_handle_law}
 
 pub returns-clause-handles : goal.returns-clause-handles
 returns-clause-handles c = resize_law

@@ -1,5 +1,5 @@
-use Rattle.w16_model.proofs.{Runs.owner_law, Runs.reach_law}
-use Rattle.w16_laws.proofs.Selectors.{selectors_law}
+use Rattle.w16_model.proofs.{Runs.reach_law}
+use Rattle.w16_laws.proofs.Selectors.{selectors_law, owner_law}
 use Rattle.w16_laws.proofs.model.runs_are_apart.Goals as goal
 
 pub returns-clause-owner : goal.returns-clause-owner

@@ -1,5 +1,6 @@
-use Rattle.w16_model.proofs.{Empty.empty_law, KeptHandles.far_law, ResizedHandles.handle_law}
+use Rattle.w16_model.proofs.{Empty.empty_law, ResizedHandles.handle_law}
 use Rattle.w16_laws.proofs.model.steps_keep_handles.Goals as goal
+use Rattle.w16_laws.proofs.FarAccesses.{far_law}
 
 pub returns-clause-begin : goal.returns-clause-begin
 returns-clause-begin c = empty_law

@@ -30,7 +30,7 @@ followed says a closure place name = elim (meant a closure.found name) [
   ]
 ]
 
--- the closure after so many references, or why the load is refused
+-- the closure after that many references, or why the load is refused
 abbrev pub after : Saying → Around → ℕ → Closure → OrRefused Closure
 after says a zero closure = Ok closure
 after says a (suc n) closure = elim closure.pending [
