@@ -23,7 +23,7 @@ kind_says holds number old new slot o kind there c q = elim (cases_eq q slot) [
 
 -- an object that gave up its bytes leaves what the selectors of others say
 others_say : (holds : SelKind) (number : ℕ) (heap : Heap) (slot q : ℕ) → q ≢ slot → says (absent heap slot) holds number q ≡ says heap holds number q
-others_say holds number heap slot q other = same_described holds number heap (absent heap slot) q (get-update_other _ slot (λ o. record o { bytes = None }) q other) (taken_other _ slot q other)
+others_say holds number heap slot q other = same_described holds _ heap (absent heap slot) q (get-update_other _ slot (λ o. record o { bytes = None }) q other) (taken_other _ slot q other)
 
 -- the heap that is left
 modified_is : (heap new : Heap) (slot : ℕ) (kind : Kind) → after_modify heap slot kind ≡ Ok new → modified heap slot kind ≡ new

@@ -8,7 +8,7 @@ pub use Rattle.w16_arena.proofs.Common.{Heap, IfNone, IfOk, IfSome, IsBlockOf, I
 pub use Rattle.w16_arena.proofs.Common.{Request, Settles, Steps, Table, [], absent, after_discard, after_free, after_lock, after_modify, after_newest, after_oldest, after_release, after_touch, after_unlock, ap, arith, block_end}
 pub use Rattle.w16_arena.proofs.Common.{block_with, blocks, by_its_id, bytes_at, cases_Bool, cases_eq, cases_lt, common_steps, compaction_prefix, cond, contents, counted, discarded, discards_needed, drop, drop-drop, drop-take, eligible, empty_table}
 pub use Rattle.w16_arena.proofs.Common.{entry_at, entry_of, eq-eqb, false, false≢true, first_eligible, get-update_other, get-update_same, get_or, get_or-set_other, get_or-set_same, growth_for, heap_in, holes_in, if◌then◌else◌, inl, inr, inserted_here}
-pub use Rattle.w16_arena.proofs.Common.{inserted_other, is_discardable, is_fixed, is_member, is_pinned_object, is_some, laid_placed, le-ltb, leb-false, length, length-put_part, length-repeated, length-replicate, length-set, length_range, lt-leb}
+pub use Rattle.w16_arena.proofs.Common.{inserted_other, is_fixed, is_member, is_pinned_object, is_some, laid_placed, le-ltb, leb-false, length, length-put_part, length-repeated, length-replicate, length-set, length_range, lt-leb}
 pub use Rattle.w16_arena.proofs.Common.{lt-ltb, member_with, most_room, moved_bytes, nat_cmp, nat_cmp-IsAntisymmetric, nat_cmp_total, nat_le, nat_lt, ne_eqb, newest, not, object_at, object_in, oldest, option_map, others_law, part, put_part}
 pub use Rattle.w16_arena.proofs.Common.{range_apart, reallocation_prefix, refl, refused_order, removed, replicate, rules, same_map, set, slice_get, slice_range, snapshot_of, stays_for, subst, suc, sym, take, take-take, taken_here, taken_other}
 pub use Rattle.w16_arena.proofs.Common.{told_at, told_none, told_past, touched, true, true-is_member, two, unwrap_or, used_each, with_newest, with_object, with_ordered, zero, ℕ, ◌&&◌, ◌*◌, ◌++◌, ◌+◌, ◌-◌, ◌/◌, ◌<◌, ◌==◌, ◌||◌, ◌∙◌, ◌∷◌, ◌≡◌, ◌≢◌}

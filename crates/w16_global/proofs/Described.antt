@@ -126,4 +126,4 @@ same_described holds number heap new q object place = ap (option_map _) object �
 
     mapped : (p : Option Object) → option_map (descriptor_for new holds number q) p ≡ option_map (descriptor_for heap holds number q) p
     mapped None = refl
-    mapped (Some o) = based o.bytes
+    mapped (Some o) = based _

@@ -33,7 +33,7 @@ found_at heap slot at size sized stands = of_object _ refl sized
 
     of_object : (p : Option Object) → object_at heap slot ≡ p → option_map (length {A = ℕ}) (elim p as (λ _. Option (List ℕ)) [ Some o ↦ o.bytes | None ↦ None ]) ≡ Some size → Found heap slot at size
     of_object None there h = cc
-    of_object (Some o) there h = of_bytes o there o.bytes refl h
+    of_object (Some o) there h = of_bytes o there _ refl h
 
 -- two objects with bytes of which one begins in the other's are one
 abbrev block_for : (heap : Heap) (slot at size : ℕ) → Found heap slot at size → (x : Block) × C.IsBlockOf heap x × (x.id ≡ slot) × (x.at ≡ at) × (x.size ≡ size)

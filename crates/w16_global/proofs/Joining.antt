@@ -125,7 +125,7 @@ locked_stays heap slot some = turn (object_at heap slot) some
   where
     turn : (p : Option Object) → 0 < C.unwrap_or (option_map (λ o. o.locks) p) 0 → free_by heap slot p ≡ Err refusals.Locked
     turn None lt = absurd (omega arith)
-    turn (Some o) lt = ap (λ b. if b then Err refusals.Locked else Ok (removed heap slot)) (C.lt-ltb 0 o.locks lt)
+    turn (Some o) lt = ap (λ b. if b then Err refusals.Locked else Ok (removed heap slot)) (C.lt-ltb 0 _ lt)
 
 pub unlocked_goes : (heap : Heap) (slot : ℕ) → is_some (object_at heap slot) ≡ true → C.locks_at heap slot ≤ 0 → C.after_free heap slot ≡ Ok (removed heap slot)
 unfolding free_by
@@ -133,7 +133,7 @@ unlocked_goes heap slot there none = turn _ there none
   where
     turn : (p : Option Object) → is_some p ≡ true → C.unwrap_or (option_map (λ o. o.locks) p) 0 ≤ 0 → free_by heap slot p ≡ Ok (removed heap slot)
     turn None e le = absurd (false≢true e)
-    turn (Some o) e le = ap (λ b. if b then Err refusals.Locked else Ok (removed heap slot)) (C.le-ltb 0 o.locks le)
+    turn (Some o) e le = ap (λ b. if b then Err refusals.Locked else Ok (removed heap slot)) (C.le-ltb 0 _ le)
 
 -- Free slots get an object.
 module _ {h : Holding} {xs : List (Option Attributes)} {t : selectors.DescriptorTable} (are : AreJoined h xs t) (new : Holding) (cap : new.cap ≡ h.cap) (slot : ℕ) (a : Attributes)

@@ -21,7 +21,6 @@ pub mod Walked
 pub mod Changing
 pub mod Reallocating
 pub mod Resizing
-mod Lengthening
 pub mod Lent
 pub mod Owning
 pub mod Loans

@@ -85,7 +85,7 @@ module _ (w : Handles) (is : AreHandles w) where
 
 -- a selector says what its object holds, and which of the object's selectors it is
 pub label_for : (heap : Heap) (holds : SelKind) (number first : ℕ) (o : Object) → ((descriptor_for heap holds number first o).kind ≡ holds) × ((descriptor_for heap holds number first o).number ≡ number)
-label_for heap holds number first o = of_bytes o.bytes
+label_for heap holds number first o = of_bytes _
   where
     of_bytes : (b : Option (List ℕ)) → ((descriptor_for heap holds number first (record o { bytes = b })).kind ≡ holds) × ((descriptor_for heap holds number first (record o { bytes = b })).number ≡ number)
     of_bytes None = (refl, refl)
@@ -116,13 +116,13 @@ says_by heap holds number first = of_object _
 
     of_object : (p : Option Object) → option_map (descriptor_for heap holds number first) p ≡ option_map told (size_in p)
     of_object None = refl
-    of_object (Some o) = ap Some (of_bytes o o.bytes)
+    of_object (Some o) = ap Some (of_bytes o _)
 
 pub said_same : (heap new : Heap) (holds : SelKind) (number first : ℕ) → size_in (object_at new first) ≡ size_in (object_at heap first) → finmap.get new.places first ≡ finmap.get heap.places first → says new holds number first ≡ says heap holds number first
 said_same heap new holds number first size place =
-    says_by new holds number first
+    says_by new holds _ first
     ∙ (λ i. option_map (λ s. elim s as (λ _. Descriptor) [ None ↦ unset holds number | Some size ↦ reaching holds (unwrap_or (place i) 0) size number ]) (size i))
-    ∙ sym (says_by heap holds number first)
+    ∙ sym (says_by heap holds _ first)
 
 -- an object has a slot in its run, and what the slot's selector says
 pub record Has (holding : Holding) (attributes : List (Option Attributes)) (table : selectors.DescriptorTable) (slot first : ℕ) : Type 0 where

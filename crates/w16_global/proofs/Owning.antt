@@ -6,6 +6,7 @@ use proofs.Common.{Heap, Object, IsMultiple, object_at, bytes_at, revival_option
 use proofs.{Joining.attributes_shown, Resizing.counted_none}
 use Rattle.w16_model.specs.{Law.Revives, Request.Grows, Request.ReallocatesObject}
 use Rattle.w16_model.proofs.{Housed.stays, Naming.names_law, Runs.owned_slots, Runs.slots_of}
+use Rattle.w16_global.specs.declared.global.Resized.{Resized}
 use Rattle.std.specs.FinMap as finmap
 use Rattle.w16_model.specs.declared.Kind.TheVariants as kinds
 use Rattle.w16_selectors.specs.Descriptors as selectors
@@ -37,7 +38,7 @@ known_handles {h = h} {xs = xs} are {m = m} shown = subst AreHandles shown (C.mo
 
 -- a handle's slot
 pub found_is : (v : Handles) (handle slot : ℕ) → Some slot ≡ C.slot_of_handle v handle → handle / 8 ≡ slot
-found_is v handle slot found = turn (object_at v.heap slot) ((names_law v handle slot).0.0 (sym found))
+found_is v handle slot found = turn (object_at v.heap slot) ((names_law v _ slot).0.0 (sym found))
   where
     named : (kind : Kind) → C.handle_of kind slot / 8 ≡ slot
     named kinds.Fixed = omega arith
@@ -46,7 +47,7 @@ found_is v handle slot found = turn (object_at v.heap slot) ((names_law v handle
 
     turn : (p : Option Object) → IsSomeAnd p (λ o. handle ≡ C.handle_of o.kind slot) → handle / 8 ≡ slot
     turn None h = absurd h
-    turn (Some o) h = ap (λ n. n / 8) h ∙ named o.kind
+    turn (Some o) h = ap (λ n. n / 8) h ∙ named _
 
 -- what is said of none, where it is none
 pub where_none : {X P : Type 0} (p : Option X) → IfNone p P → is_some p ≡ false → P
@@ -92,9 +93,9 @@ module _ (v : Handles) (is : AreHandles v) (slot : ℕ) (owned : Owned) (owns : 
   abbrev Gets : ℕ → Type 0
   Gets first = IsSomeAnd (object_at v.heap slot) (λ o. GetsRun v slot o revival_options (slots_for owned.size) first)
 
-  abbrev Resized : Handles → ℕ → Type 0
-  Resized made first = (heap : Heap) × Reallocates v.heap slot owned.size revival_options true heap
-      × (made ≡ record v { heap = rehoused heap slot first; attributes = with_run v.attributes slot first (slots_for owned.size); moved = moved_bytes v.heap heap })
+  abbrev Resizes : Handles → Resized → Type 0
+  Resizes made r = (heap : Heap) × Reallocates v.heap slot owned.size revival_options true heap × (r.moved ≡ moved_bytes v.heap heap)
+      × (made ≡ record v { heap = rehoused heap slot r.first; attributes = with_run v.attributes slot r.first (slots_for owned.size) })
 
   abbrev Lacks : Type 0
   Lacks = IsSomeAnd (object_at v.heap slot) (λ o. C.LacksRun v slot o revival_options (slots_for owned.size)
@@ -108,32 +109,31 @@ module _ (v : Handles) (is : AreHandles v) (slot : ℕ) (owned : Owned) (owns : 
       turn None e g = absurd g
       turn (Some o) e g = stays v is slot o e owned.size revival_options first few g
 
-  kept : owned.size ≤ REACH → (first : ℕ) → Gets first → (made : Handles) (r : Resized made first) → made ≡ record v { heap = r.0; moved = moved_bytes v.heap r.0 }
-  kept few first gets made r =
-      let same : first ≡ slot = here few first gets in
-      r.2 ∙ (λ i. record v { heap = rehoused r.0 slot (same i); attributes = with_run v.attributes slot (same i) (slots_for owned.size); moved = moved_bytes v.heap r.0 })
-      ∙ (λ i. record v { heap = rehoused_same r.0 slot i; attributes = same_run i; moved = moved_bytes v.heap r.0 })
+  kept : owned.size ≤ REACH → (r : Resized) → Gets r.first → (made : Handles) (z : Resizes made r) → made ≡ record v { heap = z.0 }
+  kept few r gets made z =
+      let same : r.first ≡ slot = here few r.first gets in
+      z.3 ∙ (λ i. record v { heap = rehoused z.0 slot (same i); attributes = with_run v.attributes slot (same i) (slots_for owned.size) })
+      ∙ (λ i. record v { heap = rehoused_same z.0 slot i; attributes = same_run i })
 
-  pub revived : owned.size ≤ REACH → (made : Handles) (r : Option ℕ) → IfSome r Gets → IfSome r (Resized made) → is_some r ≡ true → Revives v slot true (record made { moved = v.moved })
+  pub revived : owned.size ≤ REACH → (made : Handles) (r : Option Resized) → IfSome r (λ r. Gets r.first) → IfSome r (Resizes made) → is_some r ≡ true → Revives v slot true made
   revived few made None gets resized e = absurd (false≢true e)
-  revived few made (Some first) gets resized e =
-      let k : made ≡ record v { heap = resized.0; moved = moved_bytes v.heap resized.0 } = kept few first gets made resized in record {
+  revived few made (Some r) gets resized e =
+      let k : made ≡ record v { heap = resized.0 } = kept few r gets made resized in record {
         owned = subst (λ (x : Handles). IsSomeAnd (owned_at v slot) (λ owned. IsSomeAnd (object_at v.heap slot) (λ o. Allocates v.heap slot owned.size o.kind o.locks revival_options true x.heap))) (sym k) (revives true resized.0 resized.1);
-        rest = (λ i. record (k i) { moved = v.moved }) ∙ sym (λ i. record v { heap = (k i).heap });
+        rest = k ∙ sym (λ i. record v { heap = (k i).heap });
       }
 
   -- the bytes that were moved for it are written
-  pub revived_written : owned.size ≤ REACH → (before : ℕ) (made : Global) (r : Option ℕ) → IfSome r Gets → IfSome r (Resized made.handles) → IfSome r (λ _. made.written ≡ counted (counted before made.handles.moved) 0)
+  pub revived_written : owned.size ≤ REACH → (before : ℕ) (made : Global) (r : Option Resized) → IfSome r (λ r. Gets r.first) → IfSome r (Resizes made.handles) → IfSome r (λ r. made.written ≡ counted (counted before r.moved) 0)
       → IfNone r (made ≡ record { handles = v; written = before }) → made.written ≡ counted before (moved_bytes v.heap made.handles.heap)
   revived_written few before made None gets resized written refused =
       ap (λ (g : Global). g.written) refused ∙ none_written before v.heap ∙ ap (λ (g : Global). counted before (moved_bytes v.heap g.handles.heap)) (sym refused)
-  revived_written few before made (Some first) gets resized written refused =
-      let k : made.handles ≡ record v { heap = resized.0; moved = moved_bytes v.heap resized.0 } = kept few first gets made.handles resized in
-      written ∙ counted_none (counted before made.handles.moved) ∙ ap (counted before) (ap (λ (x : Handles). x.moved) k ∙ ap (λ (x : Handles). moved_bytes v.heap x.heap) (sym k))
+  revived_written few before made (Some r) gets resized written refused =
+      written ∙ counted_none (counted before r.moved) ∙ ap (counted before) (resized.2 ∙ ap (λ (x : Handles). moved_bytes v.heap x.heap) (sym (kept few r gets made.handles resized)))
 
   -- its slots are its own already, so it lacks only room
-  pub not_revived : (r : Option ℕ) → IfNone r Lacks → is_some r ≡ false → Revives v slot false v
-  not_revived (Some first) lacks e = absurd (false≢true (sym e))
+  pub not_revived : (r : Option Resized) → IfNone r Lacks → is_some r ≡ false → Revives v slot false v
+  not_revived (Some r) lacks e = absurd (false≢true (sym e))
   not_revived None lacks e = record {
     owned = revives false v.heap (turn (object_at v.heap slot) lacks);
     rest = refl;

@@ -3,7 +3,7 @@ use Rattle.w16_global.proofs
 use proofs.Common as C
 use proofs.Housing as M
 use proofs.Common.{◌≡◌, ◌≢◌, ℕ, ◌+◌, ◌-◌, ◌<◌, ◌≤◌, ◌⊎◌, ◌||◌, ◌&&◌, inl, inr, Bool, true, false, cond, not, IsSomeAnd, All, List, [], take, length, get_or, Option, Some, None, option_map, is_some, refl, sym, ap, ◌∙◌, subst, arith, Vec, false≢true, Attributes, RoomOptions, FIRST_SLOT}
-use proofs.Common.{Heap, Object, object_at, bytes_at, Asked, IsNew, Reallocates, KeepsOthers, Handles, GetsRun, moved_bytes, rehoused, slots_for, with_run, some_slots, is_member, asked, reallocation_prefix, descriptor_at, Holding, AreHoused, attributes_housed, attributes_in, begins_in}
+use proofs.Common.{Heap, Object, object_at, bytes_at, Asked, IsNew, Reallocates, KeepsOthers, Handles, GetsRun, rehoused, slots_for, with_run, some_slots, is_member, asked, reallocation_prefix, descriptor_at, Holding, AreHoused, attributes_housed, attributes_in, begins_in}
 use proofs.Common.{handles_of, kind_in, says, told}
 use proofs.Joined.{slot_there}
 use proofs.Sliding.{StandStill, all_gone, rest_says, was_there}
@@ -192,9 +192,9 @@ module _ {h : Holding} {xs : List (Option Attributes)} {t : selectors.Descriptor
         (anew_handles (handles_of h xs 0) are.handles slot n options o there first gets made.heap reallocated (subst (λ (x : Handles). C.IfSome (owned_at x slot) (λ (owned : Owned). owned.size ≡ n)) (sym shown) run))
 
     -- and they are told
-    pub resized_known : (moved : ℕ) → moved ≡ moved_bytes h.heap made.heap → handles_of new ys moved ≡ record w { heap = rehoused made.heap slot first; attributes = with_run w.attributes slot first (slots_for n); moved = moved_bytes w.heap made.heap }
-    resized_known moved moved_is = (λ i. record { slots = cap_is i - FIRST_SLOT; heap = heap_is i; attributes = attributes_are i; moved = moved_is i })
-        ∙ ap (λ (x : Handles). record x { heap = rehoused made.heap slot first; attributes = with_run x.attributes slot first (slots_for n); moved = moved_bytes x.heap made.heap }) shown
+    pub resized_known : handles_of new ys m ≡ record w { heap = rehoused made.heap slot first; attributes = with_run w.attributes slot first (slots_for n) }
+    resized_known = (λ i. record { slots = cap_is i - FIRST_SLOT; heap = heap_is i; attributes = attributes_are i; moved = m })
+        ∙ ap (λ (x : Handles). record x { heap = rehoused made.heap slot first; attributes = with_run x.attributes slot first (slots_for n) }) shown
 
     runs_of : AreRuns (h.cap - FIRST_SLOT) (attributes_in ys)
     runs_of = subst (λ k. AreRuns (k - FIRST_SLOT) (attributes_in ys)) cap_is resized_handles.runs

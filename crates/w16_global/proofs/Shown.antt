@@ -29,7 +29,7 @@ memory_shown w are memory shows selector offset n fine =
     ∙ shows _ _ n (subst (λ b. C.IsSomeAnd b (λ bytes. C.far_at w selector offset + n ≤ length bytes)) (sym found.here) found.fits)
   where
     found : C.Reached w (C.far_slot w selector) (C.far_at w selector offset + n)
-    found = C.reached w _ offset n fine
+    found = C.reached w _ _ n fine
 
     place : Part → Option ℕ
     place p = finmap.get w.heap.places p.slot

@@ -11,7 +11,7 @@ in_table t slot there = elim (C.cases_lt slot _) [ inl lt ↦ lt | inr past ↦ 
 -- and so is each that an object may have
 pub run_within : (attributes : List (Option C.Attributes)) (old : DescriptorTable) (slot first count : ℕ) → C.HasRun attributes old slot → C.MayHave attributes old slot first count
     → (number : ℕ) → number < count → first + number < length old
-run_within attributes old slot first count run free number lt = elim (free number lt) [
+run_within attributes old slot first count run free number lt = elim (free _ lt) [
   | inl own ↦ in_table old _ (labelled _ (C.kind_in _ slot, first + number - slot) (run _ own))
   | inr untaken ↦ untaken.1
 ]

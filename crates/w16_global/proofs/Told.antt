@@ -71,7 +71,7 @@ says_label heap kind number first there = of_object _ there
 
     of_object : (p : Option Object) → is_some p ≡ true → label_of (option_map (λ o. elim o.bytes as (λ _. Descriptor) [ None ↦ unset kind number | Some bytes ↦ reaching kind (unwrap_or (finmap.get heap.places first) 0) (length bytes) number ]) p) ≡ Some (kind, number)
     of_object None t = absurd (false≢true t)
-    of_object (Some o) t = of_bytes o.bytes
+    of_object (Some o) t = of_bytes _
 
 -- one without bytes reaches nothing
 pub says_absent : (heap : Heap) (kind : SelKind) (number first : ℕ) → is_some (object_at heap first) ≡ true → bytes_at heap first ≡ None → says heap kind number first ≡ Some (unset kind number)

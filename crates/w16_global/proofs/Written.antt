@@ -59,9 +59,9 @@ parts_written {state} {memory} parts at new le ours used = record {
   sound = parts.sound;
   low = parts.low;
   grain = parts.grain;
-  high = parts.high ∙ sym (C.length-put_part memory at new le);
-  bytes = C.All-put_part (λ b. b < 256) memory at new parts.bytes ours;
-  kept = C.threaded_stay _ memory _ parts.kept (C.AreSameIn-put_part _ memory at new le used);
+  high = parts.high ∙ sym (C.length-put_part _ at new le);
+  bytes = C.All-put_part (λ b. b < 256) _ at new parts.bytes ours;
+  kept = C.threaded_stay _ memory _ parts.kept (C.AreSameIn-put_part _ _ at new le used);
   few = parts.few;
 }
 

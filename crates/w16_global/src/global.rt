@@ -47,6 +47,15 @@ impl<A: Allocator + Copy> Model for Global16<A> {
     ghost invariant = { λ g. AreJoined g.objects g.attributes.items g.selectors };
 }
 
+/// Where an object is that was given another size or kind, and what was moved for it.
+#[derive(Clone, Copy, Debug)]
+pub(crate) struct Resized {
+    /// Its first slot.
+    pub first: u16,
+    /// How many bytes were moved.
+    pub moved: u32,
+}
+
 impl<A: Allocator + Copy> Global16<A> {
     /// A heap over `memory` bytes, a multiple of 32, with so many selectors, at most 8,160, in which nothing is allocated. It takes all its
     /// memory here; an error is that there was none.
@@ -135,33 +144,35 @@ impl<A: Allocator + Copy> Global16<A> {
     }
 
     /// So many bytes, above 0 and a multiple of the grain, for an object that is there, if it gets as many slots as these need, and there is room
-    /// for them as the options have it: the slot that it has then. Where its own slots and those after them don't do, that is another one. Its
-    /// selectors follow, and so do those of objects that were discarded for it, or have slid.
-    pub(crate) fn reallocate(&mut self, slot: u16, size: u32, options: RoomOptions) -> Option<u16>
+    /// for them as the options have it: the slot that it has then, and what was moved. Where its own slots and those after them don't do, that is
+    /// another slot. Its selectors follow, and so do those of objects that were discarded for it, or have slid.
+    pub(crate) fn reallocate(
+        &mut self,
+        slot: u16,
+        size: u32,
+        options: RoomOptions,
+    ) -> Option<Resized>
         requires object { IsSome (object_at self.old.handles.heap slot) }
         requires some { 0 < size }
         requires small { size ≤ LARGEST_SIZE }
         requires rounded { IsMultiple GRAIN size }
         requires run { IfSome (owned_at self.old.handles slot) (λ owned. owned.size ≡ size) }
-        ensures gets { IfSome result (λ first. IsSomeAnd (object_at self.old.handles.heap slot) (λ o. GetsRun self.old.handles slot o options (handles.slots_for size) first)) }
-        ensures resized { IfSome result (λ first. (heap : Heap) × Reallocates self.old.handles.heap slot size options true heap
+        ensures gets { IfSome result (λ r. IsSomeAnd (object_at self.old.handles.heap slot) (λ o. GetsRun self.old.handles slot o options (handles.slots_for size) r.first)) }
+        ensures resized { IfSome result (λ r. (heap : Heap) × Reallocates self.old.handles.heap slot size options true heap × (r.moved ≡ moved_bytes self.old.handles.heap heap)
             × (self.new.handles ≡ record self.old.handles {
-              heap = rehoused heap slot first;
-              attributes = with_run self.old.handles.attributes slot first (handles.slots_for size);
-              moved = moved_bytes self.old.handles.heap heap;
+              heap = rehoused heap slot r.first;
+              attributes = with_run self.old.handles.attributes slot r.first (handles.slots_for size);
             })) }
-        ensures few { IfSome result (λ first. first < 8192) }
         ensures refused { IfNone result (self.new ≡ self.old) }
         ensures lacks { IfNone result (IsSomeAnd (object_at self.old.handles.heap slot) (λ o.
             LacksRun self.old.handles slot o options (handles.slots_for size)
             ⊎ ((first : ℕ) × GetsRun self.old.handles slot o options (handles.slots_for size) first × Reallocates self.old.handles.heap slot size options false self.old.handles.heap))) }
-        ensures written { IfSome result (λ _. self.new.written ≡ counted (counted self.old.written self.new.handles.moved)
+        ensures written { IfSome result (λ r. self.new.written ≡ counted (counted self.old.written r.moved)
             (if options.zero then size - unwrap_or (option_map length (bytes_at self.old.handles.heap slot)) 0 else 0)) }
     {
         let count = slots_for(size);
         let first = self.run_for(slot, count, options)?;
         let place = self.objects.realloc(slot as u32, size, options)?;
-        self.moved = place.moved as u32;
         house(
             &mut self.objects,
             &mut self.attributes,
@@ -177,7 +188,10 @@ impl<A: Allocator + Copy> Global16<A> {
             place.slid,
         );
         place_run(&mut self.selectors, &self.attributes, first, place.at, size);
-        Some(first)
+        Some(Resized {
+            first,
+            moved: place.moved as u32,
+        })
     }
 
     /// Where the run of so many slots begins that an object gets for another size: where its own does, if it has as many already, or those directly

@@ -62,10 +62,7 @@ impl<A: Allocator + Copy> Global16<A> {
         if self.objects.size(slot as u32).is_some() {
             return false;
         }
-        let moved = self.moved;
-        let revived = self.reallocate(slot, owned.size, REVIVAL_OPTIONS);
-        self.moved = moved;
-        revived.is_some()
+        self.reallocate(slot, owned.size, REVIVAL_OPTIONS).is_some()
     }
 
     /// The object of a handle is gone, locked or not, owned or not, and its slot is free. A bad handle changes nothing.

@@ -1,16 +1,16 @@
 //! The calls of programs that give an object another size or another kind.
-ghost use Rattle.std.specs.Prelude.{◌≡◌, ◌<◌, ℕ, Some, IsSome, option_map, unwrap_or};
+ghost use Rattle.std.specs.Prelude.{◌≡◌, ℕ, Some, IsSome};
 ghost use Rattle.w16_model.specs.Handles as handles;
-ghost use Rattle.w16_model.specs.Heap.{Object, object_at};
+ghost use Rattle.w16_model.specs.Heap.{object_at};
 ghost use Rattle.w16_model.specs.Resizes as resizes;
 ghost use Rattle.w16_model.specs.CallLaws as call_laws;
 ghost use Rattle.w16_region.specs.Bytes.{counted};
 ghost use Rattle.w16_global.specs.Joined.{zeroed_behind};
-ghost use Rattle.w16_global.specs.Lengthened.{Lengthens};
+ghost use Rattle.w16_global.specs.Lengthened.{Changes, Lengthens, handle_at};
 
 use crate::calls::{alloc_options, rounded};
 use crate::flags::{GlobalAllocFlags, GlobalReAllocFlags};
-use crate::global::Global16;
+use crate::global::{Global16, Resized};
 use bitflags::Flags;
 use std::alloc::Allocator;
 use w16_model::names::handle_of;
@@ -46,11 +46,11 @@ impl<A: Allocator + Copy> Global16<A> {
         ensures step { (handle : ℕ) → handles.slot_of_handle self.old.handles handle ≡ Some slot → Lengthens self.old handle size flags.0 result self.new }
         ensures refused { result ≡ 0 → self.new ≡ self.old }
     {
-        let handle = self.handle_at(slot);
-        let moved = self.moved;
-        let answer = self.global_realloc(handle, size, flags);
-        self.moved = moved;
-        answer
+        self.reveal_handles();
+        match self.change_at(slot, size, flags) {
+            Some(resized) => self.handle_at(resized.first),
+            None => 0,
+        }
     }
 
     /// Does what `global_realloc` says. Its contract leaves out that it discards as few objects as it can.
@@ -58,54 +58,59 @@ impl<A: Allocator + Copy> Global16<A> {
         ensures step { resizes.GlobalReAllocs self.old.handles handle size flags.0 result self.new.handles }
         ensures written { self.new.written ≡ counted (counted self.old.written self.new.handles.moved) (zeroed_behind self.old.handles handle size flags.0 result) }
     {
-        self.moved = 0;
         let Some(slot) = self.slot_of_handle(handle) else {
+            self.moved = 0;
             return 0;
         };
-        if self.is_owned(slot) {
-            return 0;
+        match self.change_at(slot, size, flags) {
+            Some(resized) => {
+                self.moved = resized.moved;
+                self.handle_at(resized.first)
+            }
+            None => {
+                self.moved = 0;
+                0
+            }
         }
+    }
+
+    /// Does what `global_realloc` says to a slot's object. What was moved is answered, and `moved` stays. None where it is refused, and then nothing has
+    /// changed.
+    fn change_at(&mut self, slot: u16, size: u32, flags: GlobalReAllocFlags) -> Option<Resized>
+        requires { IsSome (object_at self.old.handles.heap slot) }
+        ensures { Changes self.old slot size flags.0 result self.new }
+    {
+        self.reveal_handles();
+        if self.is_owned(slot) {
+            return None;
+        }
+        let in_place = Resized {
+            first: slot,
+            moved: 0,
+        };
         if flags.intersects(GlobalReAllocFlags::MODIFY) {
             self.modify(slot, kind_modified(flags));
-            return handle;
+            return Some(in_place);
         }
         if size == 0 {
-            return self.realloc_to_zero(slot, handle, flags);
+            if flags.intersects(GlobalReAllocFlags::MOVEABLE) && self.discard(slot).is_ok() {
+                return Some(in_place);
+            }
+            return None;
         }
         if size > LARGEST_SIZE {
-            return 0;
+            return None;
         }
-        match self.reallocate(slot, rounded(size), realloc_options(flags)) {
-            Some(first) => self.handle_at(first),
-            None => 0,
-        }
+        self.reallocate(slot, rounded(size), realloc_options(flags))
     }
 
     /// The handle of a slot's object; 0 where there is none.
     fn handle_at(&self, slot: u16) -> u16
-        requires { slot < 8192 }
-        ensures { result ≡ unwrap_or (option_map (λ (o : Object). handles.handle_of o.kind slot) (object_at self.now.handles.heap slot)) 0 }
+        ensures { result ≡ handle_at self.now.handles.heap slot }
     {
         match self.objects.entry(slot as u32) {
             Some(entry) => handle_of(entry.kind, slot),
             None => 0,
-        }
-    }
-
-    /// The same for a size of 0: the handle of an object that was discarded, or 0. Nothing is moved.
-    fn realloc_to_zero(&mut self, slot: u16, handle: u16, flags: GlobalReAllocFlags) -> u16
-        requires object { IsSome (object_at self.old.handles.heap slot) }
-        requires unmoved { self.old.handles.moved ≡ 0 }
-        ensures step { resizes.Empties self.old.handles handle slot flags.0 result self.new.handles }
-        ensures written { self.new.written ≡ self.old.written }
-        ensures unmoved { self.new.handles.moved ≡ 0 }
-    {
-        if !flags.intersects(GlobalReAllocFlags::MOVEABLE) {
-            return 0;
-        }
-        match self.discard(slot) {
-            Ok(()) => handle,
-            Err(_) => 0,
         }
     }
 

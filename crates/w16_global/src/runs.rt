@@ -47,7 +47,7 @@ pub(crate) fn give_run<A: Allocator>(selectors: &mut Selectors<A>, first: u16, c
     ensures many { length selectors.new ≡ length selectors.old }
 {
     for number in 0..count {
-        selectors.give(first + number);
+        selectors.release(first + number);
     }
 }
 
@@ -83,7 +83,7 @@ pub(crate) fn place_run<A: Allocator>(
 {
     // Most objects have one slot.
     if size <= REACH {
-        selectors.place(first, at, size - 1);
+        selectors.set_range(first, at, size - 1);
     } else {
         let count = slots_of(attributes, first);
         place_slots(selectors, first, count, at, size);
@@ -111,7 +111,7 @@ fn place_slots<A: Allocator>(
     for number in 0..count {
         let behind = REACH * number as u32;
         let reached = REACH.min(size - behind);
-        selectors.place(first + number, at + behind, reached - 1);
+        selectors.set_range(first + number, at + behind, reached - 1);
     }
 }
 

@@ -156,8 +156,8 @@ impl<A: Allocator> Selectors<A> {
         }
     }
 
-    /// Gives a taken slot back: it is free again.
-    pub fn give(&mut self, slot: u16)
+    /// Releases a taken slot: it is free again.
+    pub fn release(&mut self, slot: u16)
         requires { IsSome (descriptor_at self.old slot) }
         ensures { self.new ≡ slice_set self.old slot None }
     {
@@ -166,9 +166,9 @@ impl<A: Allocator> Selectors<A> {
         self.free_from = self.free_from.min(slot as usize);
     }
 
-    /// The segment of a taken slot has bytes from an address `base` on, the last of them at the offset `limit`. It keeps its kind and its
+    /// Says that the segment of a taken slot has bytes from an address `base` on, the last of them at the offset `limit`. It keeps its kind and its
     /// number. It must end where an address of 32 bits can reach.
-    pub fn place(&mut self, slot: u16, base: u32, limit: u32)
+    pub fn set_range(&mut self, slot: u16, base: u32, limit: u32)
         requires taken { IsSome (descriptor_at self.old slot) }
         requires inside { base + limit + 1 < 2 ^ 32 }
         ensures { self.new ≡ slice_set self.old slot (Some (record { base = base; limit = limit; present = true; kind = descriptors.kind_at self.old slot; number = descriptors.number_at self.old slot })) }

@@ -21,7 +21,7 @@ place_run-requires-clause-known g c = λ number below.
     (told_labelled c.args.objects.now c.args.attributes.now c.requires.handles
     (begins_in c.args.objects.now.heap _ _) c.args.selectors.now _
     c.requires.labelled c.objects.invariant.so_far)
-    _ number (subst (λ n. number < n) (sym (run_sized c.args.objects.now c.args.attributes.now c.requires.handles c.in-Some.block.id _ c.in-Some.ensures.there.1)) below)).0
+    _ _ (subst (λ n. number < n) (sym (run_sized c.args.objects.now c.args.attributes.now c.requires.handles c.in-Some.block.id _ c.in-Some.ensures.there.1)) below)).0
 
 pub place_run-requires-clause-numbered : goal.place_run-requires-clause-numbered
 place_run-requires-clause-numbered g c = λ number below.
@@ -29,7 +29,7 @@ place_run-requires-clause-numbered g c = λ number below.
     (told_labelled c.args.objects.now c.args.attributes.now c.requires.handles
     (begins_in c.args.objects.now.heap _ _) c.args.selectors.now _
     c.requires.labelled c.objects.invariant.so_far)
-    _ number (subst (λ n. number < n) (sym (run_sized c.args.objects.now c.args.attributes.now c.requires.handles c.in-Some.block.id _ c.in-Some.ensures.there.1)) below)).1
+    _ _ (subst (λ n. number < n) (sym (run_sized c.args.objects.now c.args.attributes.now c.requires.handles c.in-Some.block.id _ c.in-Some.ensures.there.1)) below)).1
 
 pub place_run-requires-clause-enough : goal.place_run-requires-clause-enough
 place_run-requires-clause-enough g c = run_sized c.args.objects.now c.args.attributes.now c.requires.handles c.in-Some.block.id _ c.in-Some.ensures.there.1

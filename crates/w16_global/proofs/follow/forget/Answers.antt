@@ -14,7 +14,7 @@ pub vacate_run-requires-clause-known : goal.vacate_run-requires-clause-known
 vacate_run-requires-clause-known g c = λ number below.
     (run_known c.args.objects.now c.args.attributes.now c.requires.handles _
     (told_labelled c.args.objects.now c.args.attributes.now c.requires.handles (λ first. is_member first (take _ _)) c.args.selectors.now _ c.requires.labelled c.loop-id.invariant.so_far)
-    _ number (subst (λ n. number < n) c.slots_of.ensures below)).0
+    _ _ (subst (λ n. number < n) c.slots_of.ensures below)).0
 
 pub vacate_run-requires-clause-few : goal.vacate_run-requires-clause-few
 vacate_run-requires-clause-few g c = omega (arith, c.loop-id.invariant.many, c.requires.many.1, c.requires.many.2)

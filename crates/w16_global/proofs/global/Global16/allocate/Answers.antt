@@ -8,7 +8,7 @@ pub alloc-requires-clause-free : goal.alloc-requires-clause-free
 alloc-requires-clause-free g c = unused_in c.self.inside.objects c.self.inside.attributes.items c.self.inside.selectors c.self.invariant (handles_shown c.self.view_is) _ c.args.attributes.slots (subst (λ n. 0 < n) (sym c.requires.enough) (some_slots c.args.size)) c.requires.free
 
 pub take_run-requires-clause-free : goal.take_run-requires-clause-free
-take_run-requires-clause-free g c = λ number below. free_selector c.self.invariant (handles_shown c.self.view_is) _ (c.requires.free number below)
+take_run-requires-clause-free g c = λ number below. free_selector c.self.invariant (handles_shown c.self.view_is) _ (c.requires.free _ below)
 
 pub take_run-requires-clause-few : goal.take_run-requires-clause-few
 take_run-requires-clause-few g c = (c.requires.sized.0, omega (arith, c.self.invariant.selectors_many, c.self.invariant.some, c.self.invariant.handles.few))
@@ -47,7 +47,7 @@ place_run-requires-clause-known g c = λ number below. (M.allocated_run c.self.i
     c.take_run.new.selectors _ c.take_run.ensures.taken
     (subst (λ xs. (q : ℕ) → descriptor_at c.follow.new.selectors q ≡ told c.alloc.new.self.heap xs
     (λ f. is_member f c.alloc.new.self.discarded || begins_in c.alloc.new.self.heap c.in-Some.placed.slid.from
-    c.in-Some.placed.slid.to f) c.take_run.new.selectors q) c.deref.ensures.value c.follow.ensures.told) number
+    c.in-Some.placed.slid.to f) c.take_run.new.selectors q) c.deref.ensures.value c.follow.ensures.told) _
     below).0
 
 pub place_run-requires-clause-numbered : goal.place_run-requires-clause-numbered
@@ -59,7 +59,7 @@ place_run-requires-clause-numbered g c = λ number below.
     _ c.take_run.ensures.taken
     (subst (λ xs. (q : ℕ) → descriptor_at c.follow.new.selectors q ≡ told c.alloc.new.self.heap xs
     (λ f. is_member f c.alloc.new.self.discarded || begins_in c.alloc.new.self.heap c.in-Some.placed.slid.from
-    c.in-Some.placed.slid.to f) c.take_run.new.selectors q) c.deref.ensures.value c.follow.ensures.told) number
+    c.in-Some.placed.slid.to f) c.take_run.new.selectors q) c.deref.ensures.value c.follow.ensures.told) _
     below).1
 
 pub place_run-requires-clause-enough : goal.place_run-requires-clause-enough

@@ -13,7 +13,7 @@ pub enter-requires-clause-free : goal.enter-requires-clause-free
 enter-requires-clause-free g c = unused_in c.self.inside.objects c.self.inside.attributes.items c.self.inside.selectors c.self.invariant (handles_shown c.self.view_is) _ c.args.attributes.slots c.requires.some c.requires.free
 
 pub take_run-requires-clause-free : goal.take_run-requires-clause-free
-take_run-requires-clause-free g c = λ number below. free_selector c.self.invariant (handles_shown c.self.view_is) _ (c.requires.free number below)
+take_run-requires-clause-free g c = λ number below. free_selector c.self.invariant (handles_shown c.self.view_is) _ (c.requires.free _ below)
 
 pub take_run-requires-clause-few : goal.take_run-requires-clause-few
 take_run-requires-clause-few g c = (c.requires.sized.0, omega (arith, c.self.invariant.selectors_many, c.self.invariant.some, c.self.invariant.handles.few))

@@ -1,5 +1,4 @@
-use Rattle.w16_global.proofs.Common.{arith, sym, ◌∙◌}
-use Rattle.w16_global.proofs.Ordered.{ordered_below}
+use Rattle.w16_global.proofs.{Common.arith, Common.sym, Common.◌∙◌, Ordered.ordered_below}
 use Rattle.w16_global.proofs.global.Global16.in_order.Goals as goal
 
 pub overflow_cast-slot : goal.overflow_cast-slot

@@ -79,7 +79,7 @@ place_run-requires-clause-known g c = λ number below. (M.resized_run c.self.inv
     c.follow.new.selectors q ≡ told c.house.new.objects.heap xs
     (λ f. is_member f c.house.new.objects.discarded || begins_in c.house.new.objects.heap
     c.in_ok-place.place.slid.from c.in_ok-place.place.slid.to f) c.house.new.selectors q) c.deref.ensures.value
-    c.follow.ensures.told) number below).0
+    c.follow.ensures.told) _ below).0
 
 pub place_run-requires-clause-numbered : goal.place_run-requires-clause-numbered
 place_run-requires-clause-numbered g c = λ number below.
@@ -93,7 +93,7 @@ place_run-requires-clause-numbered g c = λ number below.
     c.follow.new.selectors q ≡ told c.house.new.objects.heap xs
     (λ f. is_member f c.house.new.objects.discarded || begins_in c.house.new.objects.heap
     c.in_ok-place.place.slid.from c.in_ok-place.place.slid.to f) c.house.new.selectors q) c.deref.ensures.value
-    c.follow.ensures.told) number below).1
+    c.follow.ensures.told) _ below).1
 
 pub invariant_of-self-2 : goal.invariant_of-self-2
 invariant_of-self-2 g c = M.resized_joined c.self.invariant (handles_shown c.self.view_is) c.realloc.new.self
@@ -118,10 +118,11 @@ pub returns-clause-resized : goal.returns-clause-resized
 returns-clause-resized g c = (
   c.realloc.new.self.heap,
   subst (λ w. C.Reallocates w.heap c.args.slot c.args.size c.args.options true c.realloc.new.self.heap) (handles_shown c.self.view_is) c.in_ok-place.ensures.reallocated,
+  c.in_ok-place.ensures.moved ∙ ap (λ w. C.moved_bytes w.heap c.realloc.new.self.heap) (handles_shown c.self.view_is),
   M.resized_known c.self.invariant (handles_shown c.self.view_is) c.realloc.new.self c.in_ok-place.ensures.cap
       _ c.slots_for-count.result _ _ c.args.options c.slots_for-count.ensures.value
       c.in_ok-first.ensures.gets c.in_ok-place.ensures.reallocated c.in_ok-place.ensures.discarded
-      c.house.new.objects c.house.ensures.heap c.self.inside.attributes refl c.deref_mut.ensures.value c.house.new.attributes c.house.ensures.attributes c.house.ensures.long.0 c.requires.run _ c.in_ok-place.ensures.moved,
+      c.house.new.objects c.house.ensures.heap c.self.inside.attributes refl c.deref_mut.ensures.value c.house.new.attributes c.house.ensures.attributes c.house.ensures.long.0 c.requires.run,
 )
 
 pub returns-in_err-place-clause-lacks : goal.returns-in_err-place-clause-lacks

@@ -12,5 +12,5 @@ returns g c =
     λ i. record { handles = left i; written = (ap (λ h. h.written) c.release.ensures ∙ ap (λ g. g.written) c.self.view_is) i }
 
 pub give_run-requires-clause-known : goal.give_run-requires-clause-known
-give_run-requires-clause-known g c = λ number below. (run_known c.self.inside.objects c.self.inside.attributes.items c.self.invariant.handles _ (labelled c.self.invariant) _ number
+give_run-requires-clause-known g c = λ number below. (run_known c.self.inside.objects c.self.inside.attributes.items c.self.invariant.handles _ (labelled c.self.invariant) _ _
     (subst (λ n. number < n) (c.slots_at-count.ensures.value ∙ ap (λ v. slots_at v.attributes c.args.slot) (sym (handles_shown c.self.view_is)) ∙ sym (slots_are c.self.inside.objects c.self.inside.attributes.items c.self.invariant.handles c.args.slot)) below)).0

@@ -20,4 +20,4 @@ pub returns-clause-apart : goal.returns-clause-apart
 returns-clause-apart g c =
     let item = c.in_ok-item.item in
     subst (λ w. (other : Item) → IsItem handle_of w.heap other → item.at < other.at → item.at + item.size ≤ other.at) (handles_shown c.self.view_is)
-    (apart_renamed _ item.at _ c.in_ok-item.ensures.apart)
+    (apart_renamed _ _ _ c.in_ok-item.ensures.apart)

@@ -1,7 +1,7 @@
 use Rattle.std.proofs.Common.{◌≤◌, None, refl, arith}
 use Rattle.w16_model.specs.declared.TheConstants.{FIRST_SLOT}
 use Rattle.w16_selectors.proofs.Represented.{SelectorsInvariant-set, AreTaken-give, taken_above}
-use Rattle.w16_selectors.proofs.Selectors.give.Goals as goal
+use Rattle.w16_selectors.proofs.Selectors.release.Goals as goal
 
 pub invariant_of-self : goal.invariant_of-self
 invariant_of-self g c =

@@ -1,5 +1,5 @@
 use Rattle.w16_selectors.proofs.Represented.{SelectorsInvariant-written, AreTaken-written}
-use Rattle.w16_selectors.proofs.Selectors.place.Goals as goal
+use Rattle.w16_selectors.proofs.Selectors.set_range.Goals as goal
 
 pub invariant_of-self : goal.invariant_of-self
 invariant_of-self g c =
