@@ -7,11 +7,10 @@ use proofs.Common.{put_here, ne_format, is_format, AreSaid, AreTargets, IsSaid, 
 use proofs.Undoing.{undone_by_release}
 use proofs.Fulfilled.{all_bound_are, fills_are, targets_in}
 use Rattle.std.specs.List.{AllByRecursion as Each}
-use Rattle.w16_loading.specs.Closure.{Found}
+use Rattle.w16_loading.specs.{Closure.Found, declared.LoadRefusal.TheVariants.NoFile}
 use Rattle.std.specs.FinMap as finmap
 use Rattle.w16_loading.specs.Fill as loading
 use Rattle.w16_loading.specs.declared.FetchFault.TheVariants as fetches
-use Rattle.w16_loading.specs.declared.LoadRefusal.TheVariants.{NoFile}
 use Rattle.w16_loader.specs.declared.fault.LoadFault.TheVariants as faults
 use Rattle.w16_loader.specs.declared.closure.Closure as kept
 

@@ -8,9 +8,8 @@ use proofs.Common.{IsClosureOf, LoadsHeld, load_answer, refused_by, AreHeld, ans
 use proofs.Holdings.{bound_found, held_alike, some_held}
 use proofs.{Bindings.targets_in_all, Givings.turn_since}
 use Rattle.w16_loader.specs.{Devices.is_fault_device, Binding.IsFailure, Binding.IsUnread, declared.closure.Closure.Closure}
-use Rattle.w16_loading.specs.Load.{used_again}
 use Rattle.w16_loading.specs.Answers.{Answers, ClosesFrom, GivesFrom, LoadsFrom, ReadsFile, follow, told}
-use Rattle.w16_loading.specs.Fewest.{FillsFewest}
+use Rattle.w16_loading.specs.{Load.used_again, Fewest.FillsFewest}
 use Rattle.w16_loading.proofs.{Fewest.fill_fewest, Fillings.in_turn_so, Fillings.one_heap, Named.named_heap}
 use Rattle.std.specs.FinMap as finmap
 use Rattle.w16_loading.specs.Closure as closing

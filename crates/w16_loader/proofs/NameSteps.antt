@@ -10,12 +10,20 @@ use Rattle.std.specs.List.{AllByRecursion as Each}
 use Rattle.std.specs.FinMap as finmap
 use Rattle.w16_loading.specs.Closure as closing
 use Rattle.w16_ne.specs.declared.segment_table.Segment as ne
+use Rattle.w16_loading.specs.declared.LoadRefusal.TheVariants as refusals
+use Rattle.w16_loader.specs.declared.fault.LoadFault.TheVariants as faults
 
 abbrev pub some_world : LoadingWorld
 some_world = C.empty_loading_world 0 0 [] 0
 
 pub same_global : (a b : C.Global) → a.handles ≡ b.handles → a.written ≡ b.written → a ≡ b
 same_global a b handles written = λ i. record { handles = handles i; written = written i }
+
+-- why modules get no names
+pub naming_fault : (fault : C.LoadFault) (handles : Handles) (count : ℕ) (P : C.LoadFault → Type 0) → C.IsNamingFault fault handles count → (length (free_slots handles) < count → P (faults.Refused refusals.NoRoom)) → P faults.OutOfMemory → P fault
+naming_fault (faults.Refused refusals.NoRoom) handles count P is few none = few is
+naming_fault faults.OutOfMemory handles count P is few none = none
+naming_fault fault handles count P is few none = absurd is
 
 -- One segment.
 

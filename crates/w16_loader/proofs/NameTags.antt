@@ -1,13 +1,12 @@
 -- Names are told apart by their tags.
 use Rattle.std.proofs.Common.{◌≡◌, ◌≢◌, ℕ, zero, suc, ◌==◌, ◌&&◌, true, false, List, [], ◌∷◌, ◌+◌, IfSome, get_or, set, Option, Some, None, refl, ap, arith, fold, replicate, option_map, position, unwrap_or}
 use Rattle.std.proofs.lemmas.Slice.Eq.{bytes_eq-Decides}
-use Rattle.std.specs.List.{list_any}
+use Rattle.std.specs.{List.list_any, Str.str_to_ascii_uppercase}
 use Rattle.w16_loader.specs.Registry.{first_named}
+use Rattle.w16_loader.specs.{declared.entry.Entry.Entry, declared.tagged.Found.Found, Entries.named_of, Tags.AreTags, Tags.name_tag, Tags.tag_after}
 use Rattle.w16_model.specs.Table.{by_id}
-use Rattle.std.specs.Str.{str_to_ascii_uppercase}
 use Rattle.w16_store.specs.Names.{is_named}
 use Rattle.w16_loading.specs.Modules.{name_of}
-use Rattle.w16_loader.specs.{declared.entry.Entry.Entry, declared.tagged.Found.Found, Entries.named_of, Tags.AreTags, Tags.name_tag, Tags.tag_after}
 
 same_tag : (own name : List ℕ) → is_named own name ≡ true → name_tag own ≡ name_tag name
 unfolding is_named name_tag

@@ -1,11 +1,13 @@
 -- How new modules of a load get handles, slots and names.
 use Rattle.std.specs.Prelude.{◌≡◌, ℕ, ◌<◌, ◌≤◌, ◌==◌, if◌then◌else◌, List, [], ◌∷◌, length, map, filter, fold, zip, All, is_none}
 use Rattle.std.specs.List.{AllZip, range_with_len}
-use Rattle.w16_model.specs.{declared.TheConstants.GRAIN, Heap.IsMultiple, Handles.IsFreeSlot}
+use Rattle.w16_model.specs.{declared.TheConstants.GRAIN, Heap.IsMultiple, Handles.Handles, Handles.IsFreeSlot}
 use Rattle.w16_loading.specs.declared.TheConstants.{FIRST_MODULE, MOST_MODULES, LARGEST_OWNED}
-use Rattle.w16_loading.specs.Naming.{Choice, IsChoice, Given, given, given_from, imports_at, unbound, with_modules, with_segment, segments_of}
+use Rattle.w16_loading.specs.Naming.{Choice, IsChoice, free_slots, Given, given, given_from, imports_at, unbound, with_modules, with_segment, segments_of}
 use Rattle.w16_loading.specs.{File.Segment, Modules.LoadingWorld, Modules.Module, Modules.Modules, Modules.Named.Loaded}
-use Rattle.w16_loader.specs.{declared.closure.Closure.Closure, Reached.IsAlike, Reached.IsFoundOf, Following.pair_of}
+use Rattle.w16_loading.specs.declared.LoadRefusal.TheVariants.{NoRoom}
+use Rattle.w16_loader.specs.declared.fault.LoadFault.TheVariants.{Refused, OutOfMemory}
+use Rattle.w16_loader.specs.{declared.fault.LoadFault.LoadFault, declared.closure.Closure.Closure, Reached.IsAlike, Reached.IsFoundOf, Following.pair_of}
 use Rattle.std.specs.FinMap as finmap
 use Rattle.w16_loading.specs.Closure as closing
 
@@ -32,6 +34,12 @@ unbound_by imports g = record {
   values = [];
   imports = imports g.place;
 }
+
+-- why new modules with this many segments get no names: too few slots are free, or there was no memory
+abbrev pub IsNamingFault : LoadFault → Handles → ℕ → Type 0
+IsNamingFault (Refused NoRoom) handles count = length (free_slots handles) < count
+IsNamingFault OutOfMemory handles count = Unit {0}
+IsNamingFault fault handles count = ⊥
 
 -- a size that an object may have
 pub record IsFit (s : Segment) : Type 0 where

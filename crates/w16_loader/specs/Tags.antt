@@ -1,7 +1,6 @@
 -- Tags by which names are told apart fast.
 use Rattle.std.specs.Prelude.{◌≡◌, ℕ, ◌+◌, ◌*◌, ◌%◌, List, Option, IfSome, fold}
-use Rattle.std.specs.List.{AllZip}
-use Rattle.std.specs.Str.{str_to_ascii_uppercase}
+use Rattle.std.specs.{List.AllZip, Str.str_to_ascii_uppercase}
 use Rattle.w16_loading.specs.Modules.{name_of}
 use Rattle.w16_loader.specs.{declared.entry.Entry.Entry, Entries.named_of}
 

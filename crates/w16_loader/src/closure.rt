@@ -3,7 +3,7 @@ ghost use Rattle.std.specs.Prelude.{◌≡◌, ◌≤◌, ◌+◌, ◌<◌, ◌-
 ghost use Rattle.w16_store.specs.Later.{IsLater, RoseIf};
 ghost use Rattle.w16_loader.specs.Devices.{is_fault_device};
 ghost use Rattle.w16_loading.specs.Closure as closing;
-ghost use Rattle.w16_loading.specs.{Closing.Closes, Closure.begun, Closure.dll, Refusals.by_reference};
+ghost use Rattle.w16_loading.specs.{Closure.begun, Closure.dll, Refusals.by_reference};
 ghost use Rattle.w16_loading.specs.Modules.{free_modules, handle_named};
 ghost use Rattle.w16_format.specs.Ne.{ne_format};
 ghost use Rattle.w16_loader.specs.Closing.{around_in, found_in, read_in, IsFault};

@@ -1,11 +1,13 @@
 //! Why a load fails.
 ghost use Rattle.std.specs.Prelude.{◌≡◌};
 ghost use Rattle.w16_loader.specs.Loading.{damage_at};
+ghost use Rattle.w16_loader.specs.declared.fault.LoadFault.TheVariants.{OutOfMemory};
 
+use std::alloc::AllocError;
 use thiserror::Error;
 use w16_loading::{FetchFault, LoadRefusal};
 
-/// Why no module is made of a file, or new modules get no values or no bytes.
+/// Why no module is made of a file, or new modules get no names, no values or no bytes.
 #[derive(Clone, Copy, Debug, PartialEq, Eq, Drop, Error)]
 pub enum LoadFault {
     /// The load is refused.
@@ -17,6 +19,14 @@ pub enum LoadFault {
     /// There was no memory.
     #[error("out of memory")]
     OutOfMemory,
+}
+
+impl From<AllocError> for LoadFault {
+    ghost from_gives = { λ _ e. e ≡ OutOfMemory };
+
+    fn from(_error: AllocError) -> LoadFault {
+        LoadFault::OutOfMemory
+    }
 }
 
 /// Why an object of a new module isn't given its bytes.

@@ -25,7 +25,6 @@ pub use entry::{Entry, Loaded, NOWHERE};
 pub use fault::{Failure, LoadFault};
 pub use found::{Reading, Referent, check_segments, examine_file, meant, read_file};
 pub use loading::{LoadAnswer, load};
-pub use naming::NameFault;
 pub use registry::Registry;
 pub use segment_fetch::{SegmentSource, fetch, fetch_fault, give_bytes};
 pub use segment_work::SegmentWork;

@@ -24,7 +24,7 @@ use crate::ending::release_modules;
 use crate::fault::{Failure, LoadFault, damage_at};
 use crate::filling::fill_modules;
 use crate::found::{Reading, Referent, examine_file};
-use crate::naming::{NameFault, name_modules};
+use crate::naming::name_modules;
 use crate::registry::Registry;
 use crate::tagged::{Found, name_tag};
 use std::alloc::{AllocError, Allocator, Global};
@@ -150,8 +150,7 @@ fn load_closure<S: Store, A: Allocator + Copy>(
     global.reveal_handles();
     let handles = match name_modules(registry, global, closure) {
         Ok(handles) => handles,
-        Err(NameFault::NoSlot) => return Ok(LoadAnswer::Says(LoadRefusal::NoRoom.number())),
-        Err(NameFault::OutOfMemory) => return Err(AllocError),
+        Err(fault) => return refuse(fault),
     };
     match bind_and_fill(registry, global, store, scratch, handles.as_slice()) {
         Ok(()) => Ok(LoadAnswer::Says(handles[0])),

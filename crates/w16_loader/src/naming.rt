@@ -13,38 +13,27 @@ ghost use Rattle.w16_loading.specs.Closure as closing;
 ghost use Rattle.w16_loading.specs.Naming.{free_slots, segments_in, with_segment, handle_meant};
 ghost use Rattle.w16_loading.specs.Release.{without_objects};
 ghost use Rattle.w16_format.specs.Tables.{segment_in, tables_in};
-ghost use Rattle.w16_loader.specs.declared.naming.NameFault.TheVariants.{NoSlot};
 ghost use Rattle.w16_loader.specs.Closing.{referent_of};
 ghost use Rattle.w16_loader.specs.Following.{pair_of};
 ghost use Rattle.w16_loader.specs.Reached.{IsFoundOf};
-ghost use Rattle.w16_loader.specs.Naming.{IsClosureOf, IsFit, IsUnbound, Takes, GetsName, GetNames, free_handles, imports_among, unbound_by};
+ghost use Rattle.w16_loader.specs.Naming.{IsClosureOf, IsFit, IsNamingFault, IsUnbound, Takes, GetsName, GetNames, free_handles, imports_among, unbound_by};
 ghost use Rattle.w16_loader.specs.Registry.{in_world};
 
 use crate::closure::{Bound, Closure};
 use crate::ending::{release_modules, release_slots};
 use crate::entry::Loaded;
+use crate::fault::LoadFault;
 use crate::found::Referent;
 use crate::registry::Registry;
 use crate::segment::{is_code, segment_kind};
 use crate::tagged::Found;
 use std::alloc::{AllocError, Allocator};
 use std::mem;
-use thiserror::Error;
 use w16_global::Global16;
+use w16_loading::LoadRefusal;
 use w16_model::Owned;
 use w16_model::names::slot_of;
 use w16_ne::{Module, Segment};
-
-/// Why new modules get no names.
-#[derive(Clone, Copy, Debug, PartialEq, Eq, Drop, Error)]
-pub enum NameFault {
-    /// There are too few free slots for their segments.
-    #[error("too few free slots")]
-    NoSlot,
-    /// There was no memory.
-    #[error("out of memory")]
-    OutOfMemory,
-}
 
 /// A segment gets an object without bytes, in the lowest free slot: the slot, none where no slot is free.
 fn take_slot<A: Allocator + Copy>(global: &mut Global16<A>, segment: Segment) -> Option<u16>
@@ -99,22 +88,20 @@ fn take_slots<A: Allocator + Copy>(
     alloc: A,
     global: &mut Global16<A>,
     module_file: &Module<A>,
-) -> Result<Vec<u16, A>, NameFault>
+) -> Result<Vec<u16, A>, LoadFault>
     ensures many { IfOk result (λ slots. length slots.items ≡ length module_file.now.segments) }
     ensures taken { IfOk result (λ slots. (rest : LoadingWorld) → Takes (with_handles rest global.old.handles) (zip slots.items (map segment_in module_file.now.segments)) (with_handles rest global.new.handles)) }
     ensures few { IfOk result (λ slots. All (λ q. q < 8192) slots.items) }
     ensures fit { IfOk result (λ _. All IsFit (map segment_in module_file.now.segments)) }
     ensures same { OnErr result (global.new ≡ global.old) }
-    ensures no_slot { IfErr result (λ fault. fault ≡ NoSlot → length (free_slots global.old.handles) < length module_file.now.segments) }
+    ensures fault { IfErr result (λ fault. IsNamingFault fault global.old.handles (length module_file.now.segments)) }
     ensures written { global.new.written ≡ global.old.written }
 {
-    let Ok(mut slots) = vec![in alloc; 0; module_file.segment_count()] else {
-        return Err(NameFault::OutOfMemory);
-    };
+    let mut slots = vec![in alloc; 0; module_file.segment_count()]?;
     if put_slots(global, module_file, slots.as_mut_slice()) {
         Ok(slots)
     } else {
-        Err(NameFault::NoSlot)
+        Err(LoadFault::Refused(LoadRefusal::NoRoom))
     }
 }
 
@@ -152,7 +139,7 @@ fn name_module<A: Allocator + Copy>(
     uses: u32,
     found: Found<A>,
     imports: Vec<u16, A>,
-) -> Result<(), NameFault>
+) -> Result<(), LoadFault>
     requires free { IsFreeModule registry.old handle }
     requires few { uses ≤ loading_constants.MOST_USES }
     ensures named { OnOk result ((rest : LoadingWorld) → (slots : List ℕ) × GetsName (in_world (with_handles rest global.old.handles) registry.old) handle (record {
@@ -164,21 +151,16 @@ fn name_module<A: Allocator + Copy>(
       imports = imports.items;
     }) (in_world (with_handles rest global.new.handles) registry.new)) }
     ensures same { OnErr result ((registry.new ≡ registry.old) × (global.new ≡ global.old)) }
-    ensures no_slot { IfErr result (λ fault. fault ≡ NoSlot → length (free_slots global.old.handles) < length found.module.segments) }
+    ensures fault { IfErr result (λ fault. IsNamingFault fault global.old.handles (length found.module.segments)) }
     ensures written { global.new.written ≡ global.old.written }
 {
     global.reveal_handles();
     let alloc = *imports.allocator();
-    let slots = match take_slots(alloc, global, &found.module) {
-        Ok(slots) => slots,
-        Err(fault) => return Err(fault),
-    };
+    let slots = take_slots(alloc, global, &found.module)?;
     let Found { file, module, .. } = found;
     let loaded = Loaded::new(file, module, uses, slots, Vec::new(alloc), imports);
-    match put_module(alloc, registry, global, handle, loaded) {
-        Ok(()) => Ok(()),
-        Err(_) => Err(NameFault::OutOfMemory),
-    }
+    put_module(alloc, registry, global, handle, loaded)?;
+    Ok(())
 }
 
 /// New modules get objects for their segments, and these handles name them from now on, each with its imports, which are taken out of their
@@ -189,7 +171,7 @@ fn name_all<A: Allocator + Copy>(
     handles: &[u16],
     found: Vec<Found<A>, A>,
     imports: &mut Vec<Vec<u16, A>, A>,
-) -> Result<(), NameFault>
+) -> Result<(), LoadFault>
     requires handles { length handles.now ≡ length found.items }
     requires imports { length imports.old.items ≡ length found.items }
     requires free { All (IsFreeModule registry.old) handles.now }
@@ -197,7 +179,7 @@ fn name_all<A: Allocator + Copy>(
     ensures named { OnOk result ((rest : LoadingWorld) (meant : List closing.Found) → AllZip IsFoundOf found.items meant → GetNames (in_world (with_handles rest global.old.handles) registry.old)
         (unbound_by (λ place. slice_index_or (map (λ v. v.items) imports.old.items) place [])) meant handles.now (in_world (with_handles rest global.new.handles) registry.new)) }
     ensures same { OnErr result ((registry.new ≡ registry.old) × (global.new ≡ global.old)) }
-    ensures no_slot { IfErr result (λ fault. (meant : List closing.Found) → AllZip IsFoundOf found.items meant → fault ≡ NoSlot → length (free_slots global.old.handles) < segments_in meant) }
+    ensures fault { IfErr result (λ fault. (meant : List closing.Found) → AllZip IsFoundOf found.items meant → IsNamingFault fault global.old.handles (segments_in meant)) }
     ensures written { global.new.written ≡ global.old.written }
 {
     global.reveal_handles();
@@ -282,25 +264,19 @@ pub(crate) fn name_modules<A: Allocator + Copy>(
     registry: &mut Registry<A>,
     global: &mut Global16<A>,
     closure: Closure<A>,
-) -> Result<Vec<u16, A>, NameFault>
+) -> Result<Vec<u16, A>, LoadFault>
     requires { length closure.found.items ≤ free_modules registry.old }
     ensures named { IfOk result (λ handles. (rest : LoadingWorld) (meant : closing.Closure) → IsClosureOf closure meant
         → IsUnbound (in_world (with_handles rest global.old.handles) registry.old) meant handles.items (in_world (with_handles rest global.new.handles) registry.new)) }
     ensures lowest { IfOk result (λ handles. handles.items ≡ take (length closure.found.items) (free_handles registry.old)) }
     ensures same { OnErr result ((registry.new ≡ registry.old) × (global.new ≡ global.old)) }
-    ensures no_slot { IfErr result (λ fault. (meant : closing.Closure) → IsClosureOf closure meant → fault ≡ NoSlot → length (free_slots global.old.handles) < segments_in meant.found) }
+    ensures fault { IfErr result (λ fault. (meant : closing.Closure) → IsClosureOf closure meant → IsNamingFault fault global.old.handles (segments_in meant.found)) }
     ensures written { global.new.written ≡ global.old.written }
 {
     let Closure { found, bound } = closure;
     let alloc = *found.allocator();
-    let Ok(handles) = registry.free_handles(alloc, found.len()) else {
-        return Err(NameFault::OutOfMemory);
-    };
-    let Ok(mut imports) = imports_of(alloc, bound.as_slice(), handles.as_slice()) else {
-        return Err(NameFault::OutOfMemory);
-    };
-    match name_all(registry, global, handles.as_slice(), found, &mut imports) {
-        Ok(()) => Ok(handles),
-        Err(fault) => Err(fault),
-    }
+    let handles = registry.free_handles(alloc, found.len())?;
+    let mut imports = imports_of(alloc, bound.as_slice(), handles.as_slice())?;
+    name_all(registry, global, handles.as_slice(), found, &mut imports)?;
+    Ok(handles)
 }

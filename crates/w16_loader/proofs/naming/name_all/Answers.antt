@@ -4,17 +4,23 @@ use proofs.Common as C
 use proofs.NameSteps as M
 use proofs.Common.{◌≡◌, ◌+◌, ◌<◌, if◌then◌else◌, Bool, true, false, [], ◌∷◌, ◌++◌, Some, length, get_or, map, fold, take, refl, sym, ap, ◌∙◌, subst, arith, rules, YieldsList-from_vec, YieldsList-from_enumerate, YieldsList-turn, with_handles, in_world, unbound_by}
 use proofs.{Imports.pushed_other, NameSteps.some_world, NameSteps.at_turn}
+use Rattle.w16_loader.proofs.naming.name_all.Goals.{In-Some}
 use Rattle.w16_loader.proofs.naming.name_all.Goals as goal
 
 counts : (b : Bool) → C.from_bool b ≡ (if b then 1 else 0)
 counts true = refl
 counts false = refl
 
-pub name_module-requires-clause-free : goal.name_module-requires-clause-free
-name_module-requires-clause-free g c =
+-- the module of this turn
+at_place : (g : _) (c : In-Some g) → (length c.loop-place.yielded < length c.args.found.items) × (c.in-Some.place ≡ length c.loop-place.yielded) × (C.slice_get c.args.found.items (length c.loop-place.yielded) ≡ Some c.in-Some.found)
+at_place g c =
     let t = YieldsList-turn (YieldsList-from_enumerate {s = c.into_iter-place-iterator.result} (YieldsList-from_vec _ (first_of (cc, search rules)) (first_of (cc, search rules))) (first_of (cc, search rules)))
     c.loop-place.yielded c.loop-place.place-iterator c.loop-place.yielded_by c.next.result c.next.new.self (c.in-Some.place, c.in-Some.found) c.in-Some.is c.next.ensures.steps in
-    let at = at_turn c.args.found.items _ c.in-Some.place c.in-Some.found t.0 t.1 in
+    at_turn c.args.found.items (length c.loop-place.yielded) c.in-Some.place c.in-Some.found t.0 t.1
+
+pub name_module-requires-clause-free : goal.name_module-requires-clause-free
+name_module-requires-clause-free g c =
+    let at = at_place g (goal.at.name_module-requires-clause-free g c).In-Some in
     let lt = at.0 in
     let place = at.1 in
     subst (λ k. C.IsFreeModule c.loop-place.registry (get_or c.args.handles.now k 0)) (sym place)
@@ -23,9 +29,7 @@ name_module-requires-clause-free g c =
 
 pub loop-place-preserved : goal.loop-place-preserved
 loop-place-preserved g c =
-    let t = YieldsList-turn (YieldsList-from_enumerate {s = c.into_iter-place-iterator.result} (YieldsList-from_vec _ (first_of (cc, search rules)) (first_of (cc, search rules))) (first_of (cc, search rules)))
-    c.loop-place.yielded c.loop-place.place-iterator c.loop-place.yielded_by c.next.result c.next.new.self (c.in-Some.place, c.in-Some.found) c.in-Some.is c.next.ensures.steps in
-    let at = at_turn c.args.found.items (length _) c.in-Some.place c.in-Some.found t.0 t.1 in
+    let at = at_place g (goal.at.loop-place-preserved g c).In-Some in
     let lt = at.0 in
     let place = at.1 in
     let here = ap (C.slice_get _) place ∙ at.2 in
@@ -51,31 +55,26 @@ loop-place-preserved g c =
 
 pub slice_bounds-release_modules-end : goal.slice_bounds-release_modules-end
 slice_bounds-release_modules-end g c =
-    let t = YieldsList-turn (YieldsList-from_enumerate {s = c.into_iter-place-iterator.result} (YieldsList-from_vec _ (first_of (cc, search rules)) (first_of (cc, search rules))) (first_of (cc, search rules)))
-    c.loop-place.yielded c.loop-place.place-iterator c.loop-place.yielded_by c.next.result c.next.new.self (c.in-Some.place, c.in-Some.found) c.in-Some.is c.next.ensures.steps in
-    let at = at_turn c.args.found.items _ c.in-Some.place c.in-Some.found t.0 t.1 in
+    let at = at_place g (goal.at.slice_bounds-release_modules-end g c).In-Some in
     let lt = at.0 in
     let place = at.1 in
     sym (C.length-take-le _ _ (omega (arith, lt, place, c.requires.handles)))
 
 pub returns-in-Err-clause-same : goal.returns-in-Err-clause-same
 returns-in-Err-clause-same g c =
-    let t = YieldsList-turn (YieldsList-from_enumerate {s = c.into_iter-place-iterator.result} (YieldsList-from_vec c.args.found.items (first_of (cc, search rules)) (first_of (cc, search rules))) (first_of (cc, search rules)))
-    c.loop-place.yielded c.loop-place.place-iterator c.loop-place.yielded_by c.next.result c.next.new.self (c.in-Some.place, c.in-Some.found) c.in-Some.is c.next.ensures.steps in
-    let at = at_turn c.args.found.items (length c.loop-place.yielded) c.in-Some.place c.in-Some.found t.0 t.1 in
+    let at = at_place g (goal.at.returns-in-Err-clause-same g c).In-Some in
     let back = M.all_go_back c.args.global.now.handles c.loop-place.global.handles c.release_modules.new.global.handles c.args.registry.now c.loop-place.registry c.release_modules.new.registry
     (unbound_by (λ p. get_or (map (λ v. v.items) c.args.imports.now.items) p [])) c.args.found.items c.args.handles.now (length c.loop-place.yielded) c.reveal_handles.ensures (λ g. refl) c.requires.handles at.0 c.requires.free c.requires.apart
     c.loop-place.invariant.named
     (λ rest. c.release_modules.ensures.gone rest ∙ (λ i. fold C.without_module (in_world (with_handles rest ((c.in-Err.ensures.same.1 i).handles)) (c.in-Err.ensures.same.0 i)) (take (at.1 i) c.args.handles.now))) in
     (back.0, M.same_global c.release_modules.new.global c.args.global.now back.1 (c.release_modules.ensures.written ∙ c.name_module.ensures.written ∙ c.loop-place.invariant.written))
 
-pub returns-in-Err-clause-no_slot : goal.returns-in-Err-clause-no_slot
-returns-in-Err-clause-no_slot g c = λ meant all e.
-    let t = YieldsList-turn (YieldsList-from_enumerate {s = c.into_iter-place-iterator.result} (YieldsList-from_vec _ (first_of (cc, search rules)) (first_of (cc, search rules))) (first_of (cc, search rules)))
-    c.loop-place.yielded c.loop-place.place-iterator c.loop-place.yielded_by c.next.result c.next.new.self (c.in-Some.place, c.in-Some.found) c.in-Some.is c.next.ensures.steps in
-    let at = at_turn _ _ c.in-Some.place c.in-Some.found t.0 t.1 in
-    M.too_few_slots c.args.global.now.handles c.loop-place.global.handles c.args.registry.now c.loop-place.registry (unbound_by (λ p. get_or (map (λ v. v.items) c.args.imports.now.items) p [])) c.args.found.items meant c.args.handles.now
-    _ _ at.2 all c.requires.handles at.0 (c.loop-place.invariant.named some_world meant all) (c.in-Err.ensures.no_slot e)
+pub returns-in-Err-clause-fault : goal.returns-in-Err-clause-fault
+returns-in-Err-clause-fault g c = λ meant all.
+    let at = at_place g (goal.at.returns-in-Err-clause-fault g c).In-Some in
+    M.naming_fault c.in-Err.fault _ _ (λ f. C.IsNamingFault f c.args.global.now.handles (C.segments_in meant)) c.in-Err.ensures.fault (λ few. M.too_few_slots c.args.global.now.handles c.loop-place.global.handles c.args.registry.now c.loop-place.registry
+    (unbound_by (λ p. get_or (map (λ v. v.items) c.args.imports.now.items) p [])) c.args.found.items meant c.args.handles.now
+    _ _ at.2 all c.requires.handles at.0 (c.loop-place.invariant.named some_world meant all) few) tt
 
 pub returns-clause-named : goal.returns-clause-named
 returns-clause-named g c = λ rest meant all.
@@ -87,7 +86,5 @@ returns-clause-named g c = λ rest meant all.
 
 pub bounds-handles-place : goal.bounds-handles-place
 bounds-handles-place g c =
-    let t = YieldsList-turn (YieldsList-from_enumerate {s = c.into_iter-place-iterator.result} (YieldsList-from_vec _ (first_of (cc, search rules)) (first_of (cc, search rules))) (first_of (cc, search rules)))
-    c.loop-place.yielded c.loop-place.place-iterator c.loop-place.yielded_by c.next.result c.next.new.self (c.in-Some.place, c.in-Some.found) c.in-Some.is c.next.ensures.steps in
-    let at = at_turn c.args.found.items (length _) c.in-Some.place c.in-Some.found t.0 t.1 in
+    let at = at_place g (goal.at.bounds-handles-place g c).In-Some in
     omega (arith, at.0, at.1, c.requires.handles)

@@ -1,6 +1,5 @@
 -- The object is revived, and its bytes are written.
-use Rattle.w16_loader.proofs.Common.{refl, ap}
-use Rattle.w16_loader.proofs.Giving.{revived_bytes, given_bytes}
+use Rattle.w16_loader.proofs.{Common.refl, Common.ap, Giving.revived_bytes, Giving.given_bytes}
 use Rattle.w16_loader.proofs.segment_fetch.give_bytes.Goals as goal
 
 pub with_bytes-requires : goal.with_bytes-requires

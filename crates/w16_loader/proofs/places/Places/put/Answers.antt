@@ -1,9 +1,7 @@
 -- The place was left free, so there is room for the entry, and it gets the key.
 use Rattle.std.proofs.Common.{None, Some, set, sym, ap, ◌∙◌, subst, length, arith}
-use Rattle.std.proofs.lemmas.List.{set-set, length-set}
-use Rattle.std.proofs.lemmas.Slice.Zip.{AllZip-long}
-use Rattle.w16_loader.proofs.Keyed.{place_left, has_room, put_placed, put_keyed}
-use Rattle.w16_loader.proofs.NameTags.{set_tags}
+use Rattle.std.proofs.{lemmas.List.set-set, lemmas.List.length-set, lemmas.Slice.Zip.AllZip-long}
+use Rattle.w16_loader.proofs.{Keyed.place_left, Keyed.has_room, Keyed.put_placed, Keyed.put_keyed, NameTags.set_tags}
 use Rattle.w16_loader.specs.Tags.{AreTags, name_tag}
 use Rattle.w16_loader.proofs.places.Places.put.Goals as goal
 

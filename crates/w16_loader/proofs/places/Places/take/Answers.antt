@@ -1,8 +1,7 @@
 -- The key goes from its place, and the entry from the slab.
 use Rattle.std.proofs.Common.{None, get_or, set, sym, ap, ◌∙◌, subst}
 use Rattle.std.proofs.lemmas.List.{set-get_or}
-use Rattle.w16_loader.proofs.Keyed.{untouched, take_placed, take_keyed}
-use Rattle.w16_loader.proofs.NameTags.{set_tags}
+use Rattle.w16_loader.proofs.{Keyed.untouched, Keyed.take_placed, Keyed.take_keyed, NameTags.set_tags}
 use Rattle.w16_loader.specs.Tags.{AreTags}
 use Rattle.w16_loader.proofs.places.Places.take.Goals as goal
 

@@ -1,8 +1,7 @@
 -- Nothing stands where there is no key.
 use Rattle.std.proofs.Common.{rules, ap, ◌∙◌}
 use Rattle.w16_loader.specs.Places.{placed}
-use Rattle.w16_loader.proofs.Keyed.{new_keyed, none_placed}
-use Rattle.w16_loader.proofs.NameTags.{new_tags}
+use Rattle.w16_loader.proofs.{Keyed.new_keyed, Keyed.none_placed, NameTags.new_tags}
 use Rattle.w16_loader.proofs.places.Places.untaken.Goals as goal
 
 pub returns : goal.returns
