@@ -15,7 +15,7 @@ pub use Rattle.w16_loading.proofs.Common.{Fetching, GlobalDiscard}
 pub use Rattle.w16_loading.specs.Replies.Reply.{Walked}
 pub use Rattle.w16_loading.specs.declared.FetchFault.{FetchFault}
 pub use Rattle.w16_machine.proofs.Common.{Accesses, Answer, Bool, Command, DS, Done, Dword, Failed, FarAnswer, Fill, GlobalAlloc, GlobalCompact, GlobalReAlloc, HandleCommand, HandleReplies, HandleStep, Handles, Heap, List, LoadingWorld}
-pub use Rattle.w16_machine.proofs.Common.{LocalCommand, LocalStep, MatchBool, MatchOption, OfFar, OfHandles, OfLoading, OfLocals, OfResizes, Read, Reply, ResizeCommand, ResizeReplies, Word, World, Write, [], after_free, after_lock, after_touch, after_unlock}
+pub use Rattle.w16_machine.proofs.Common.{LocalCommand, LocalStep, MatchBool, MatchOption, OfFar, OfHandles, OfLocals, OfResizes, Read, Reply, ResizeCommand, ResizeReplies, Word, World, Write, [], after_free, after_lock, after_touch, after_unlock}
 pub use Rattle.w16_machine.proofs.Common.{bytes_at, cond, empty_world, false, far_fault, far_slot, gives, length, nat_lt, needs_fetch, offset_in, part, refl, refuses_write, reply_of_far, selector_in, subst, sym, true, unwrap_or, ℕ}
 pub use Rattle.w16_machine.proofs.Common.{◌+◌, ◌∷◌, ◌≡◌}
 unfoldable pub use Rattle.w16_machine.proofs.Common.{repeated}

@@ -1,21 +1,19 @@
 -- What is lent, by what the kernel has found.
-use Rattle.w16_c.proofs.Common.{◌≡◌, ℕ, Bool, true, false, Ok, Err, length, refl, sym, subst, Command, World, OfLoading, OfFar, Read, KernelStep, ne_format, IsDoneOrFault, Reply}
+use Rattle.w16_c.proofs.Common.{◌≡◌, ℕ, Bool, true, false, Ok, Err, length, refl, sym, subst, Command, World, OfFar, Read, KernelStep, ne_format, IsDoneOrFault, Reply}
 use Rattle.w16_c.proofs.ReplyKinds.{fault_calls}
 use Rattle.std.proofs.Common.{◌≢◌, ◌∙◌, arith, inl, inr}
 use Rattle.std.specs.Prelude.{List}
-use Rattle.w16_loading.specs.Families.LoadingCommand.{OfHandles}
-use Rattle.w16_kernel.specs.Questions.{IsAnswered}
-use Rattle.w16_model.specs.Calls.{HandleCommand}
 use Rattle.w16_loading.specs.Replies.Reply.{Bytes, Done, Failed, Fault}
-use Rattle.w16_machine.specs.Law.{IsCommand}
+use Rattle.w16_loading.specs.{Families.Command.OfHandles, Law.IsCommand}
+use Rattle.w16_kernel.specs.Questions.{IsAnswered}
+use Rattle.w16_kernel.specs.{Lent.FindsPlace, Lent.IsFarFault, Parts.IsWorldOver, Runs.reply_of}
+use Rattle.w16_model.specs.{Calls.HandleCommand, Heap.bytes_at}
 use Rattle.w16_writes.proofs.Promises.{promised_step}
-use Rattle.w16_model.specs.Heap.{bytes_at}
 use Rattle.w16_global.proofs.Loans.{part_length}
 use Rattle.w16_global.specs.{Loans.lent_bytes, declared.loan.Place.Place}
-use Rattle.w16_kernel.specs.{Lent.FindsPlace, Lent.IsFarFault, Parts.IsWorldOver, Runs.reply_of}
-use Rattle.w16_kernel.specs.declared.call.Reply as code
 use Rattle.w16_c.specs.{Makes.FarCalls, Makes.IsStatus, Makes.Lends, Makes.Makes, declared.held.Held.Held, declared.lent.Lent.Lent}
 use Rattle.w16_c.specs.declared.status.TheConstants.{DONE}
+use Rattle.w16_kernel.specs.declared.call.Reply as code
 
 pub fault_is : (reply : Reply) → IsFarFault reply → IsDoneOrFault reply
 fault_is (Fault f) k = tt
@@ -41,8 +39,8 @@ module _ {old new : Held} {w w' : World} (was : old.is_held ≡ true) (is : new.
           place,
           record {
             found = rw to f.1;
-            read = subst (λ (x : World). Makes old (OfLoading
-                (OfFar (Read pointer count))) (Bytes (lent_bytes x.loading.handles place)) new) (sym to) (makes tt f.0);
+            read = subst (λ (x : World). Makes old (OfFar (Read pointer count)) (Bytes (lent_bytes x.loading.handles place)) new) (sym to)
+                (makes tt f.0);
             taken = rw (← from, to) f.2;
           },
         ),
@@ -54,14 +52,14 @@ module _ {old new : Held} {w w' : World} (was : old.is_held ≡ true) (is : new.
   unlent true status reply same k s f = inr (inr (not_done status (reply_of reply) k s, same, λ bytes long known. fault_calls old _ status _ Done new k s (makes known (f bytes long))))
 
   -- and the bytes that are read are what is lent
-  pub read : {pointer count : ℕ} {after : List ℕ} (place : Place) → after ≡ lent_bytes w'.loading.handles place → FindsPlace (Unit {0}) w false pointer count (Ok place) w' → FarCalls old (OfLoading (OfFar (Read pointer count))) DONE (Bytes after) new
-  read {pointer} {count} place e f = inl (inl (refl, subst (λ b. Makes old (OfLoading (OfFar (Read pointer count))) (Bytes b) new) (sym e) (makes tt f.0)))
+  pub read : {pointer count : ℕ} {after : List ℕ} (place : Place) → after ≡ lent_bytes w'.loading.handles place → FindsPlace (Unit {0}) w false pointer count (Ok place) w' → FarCalls old (OfFar (Read pointer count)) DONE (Bytes after) new
+  read {pointer} {count} place e f = inl (inl (refl, subst (λ b. Makes old (OfFar (Read pointer count)) (Bytes b) new) (sym e) (makes tt f.0)))
 
   pub unread : {pointer count : ℕ} {after : List ℕ} (status : ℕ) (reply : code.Reply) → IsFarFault (reply_of reply) → IsStatus status (reply_of reply) → FindsPlace (Unit {0}) w false pointer count (Err reply) w'
-      → FarCalls old (OfLoading (OfFar (Read pointer count))) status (Bytes after) new
+      → FarCalls old (OfFar (Read pointer count)) status (Bytes after) new
   unread status reply k s f = fault_calls old _ status _ (Bytes _) new k s (makes tt f)
 
 -- and a question that it answered, the holder answers
 pub answered : {old new : Held} {w : World} {command : HandleCommand} {reply : Reply} → old.is_held ≡ true → new.is_held ≡ true → w ≡ old.world → new.world ≡ w → IsAnswered (Unit {0}) w command reply
-    → Makes old (OfLoading (OfHandles command)) reply new
+    → Makes old (OfHandles command) reply new
 answered was is from to a = record { was = was; is = is; step = rw (← from, to) a.step; promises = rw (← from, to) a.promises }

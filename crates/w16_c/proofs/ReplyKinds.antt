@@ -4,11 +4,11 @@ use Rattle.w16_c.proofs.Common.{part, repeated, Heap, bytes_at, after_free, afte
 use Rattle.w16_c.proofs.Common.{refuses_write, length-part, HandleCommand, Answer, HandleStep, global_lock, handle_or_0, GlobalAlloc, GlobalFree, GlobalLock, GlobalUnlock, GlobalSize}
 use Rattle.w16_c.proofs.Common.{GlobalFlags, GlobalHandle, GetSelectorBase, GetSelectorLimit, GlobalCompact, GlobalLRUNewest, GlobalLRUOldest, Moved, FarAnswer, Reached, reached, far_fault, far_slot, Read, Write, Fill}
 use Rattle.w16_c.proofs.Common.{FetchFault, Fetching, Accesses, gives, needs_fetch, reply_of_far, LoadingWorld, OfHandles, OfResizes, OfFar, ResizeCommand, GlobalReAlloc, GlobalDiscard, Reply, HandleReplies}
-use Rattle.w16_c.proofs.Common.{ResizeReplies, Word, Dword, Done, Failed, Walked, LocalCommand, LocalStep, DS, World, Command, OfLoading, OfLocals, KernelStep, ne_format, AnswersWord, AnswersDword, IsWrite, IsWord, IsDword, IsDoneOrFault}
+use Rattle.w16_c.proofs.Common.{ResizeReplies, Word, Dword, Done, Failed, Walked, LocalCommand, LocalStep, DS, World, Command, OfLocals, KernelStep, ne_format, AnswersWord, AnswersDword, IsWrite, IsWord, IsDword, IsDoneOrFault}
 use Rattle.std.proofs.Common.{◌⊎◌, ◌∙◌, ap, inl, inr}
 use Rattle.w16_loading.specs.Replies.Reply.{Bytes, Fault}
 use Rattle.w16_loading.specs.Families as families
-use Rattle.w16_loading.specs.Families.LoadingCommand.{OfModules, OfResources}
+use Rattle.w16_loading.specs.Families.Command.{OfModules, OfResources}
 use Rattle.w16_loading.specs.Families.ModuleCommand.{Builtin, FreeLibrary, FreeModule, GetModuleHandle, GetModuleUsage, GetProcAddress, LoadLibrary, LoadModule}
 use Rattle.w16_loading.specs.Families.ResourceCommand.{FindResource, FreeResource, LoadResource, LockResource, SizeofResource}
 use Rattle.w16_loading.specs.File.{Resource}
@@ -20,7 +20,7 @@ use Rattle.w16_loading.specs.declared.TheConstants.{MOST_USES}
 use Rattle.w16_machine.proofs.Stepped.{fetching}
 use Rattle.w16_model.specs.Handles.{IsFreeSlot}
 use Rattle.w16_kernel.specs.Lent.{IsFarFault}
-use Rattle.w16_c.specs.Kinds.{FetchesWord, IsOrFailure}
+use Rattle.w16_c.specs.Kinds.{FetchesDword, FetchesWord, IsOrFailure}
 use Rattle.w16_c.specs.Makes.{FarCalls, FetchCalls, IsStatus, Makes, Stays, Tells}
 use Rattle.w16_c.specs.declared.held.Held.{Held}
 use Rattle.w16_model.specs.declared.Refusal.TheVariants as refusals
@@ -65,7 +65,7 @@ lock_dword old handle = by_name DwordAnswer _ _ (tt) (λ slot. locked slot (afte
     locked slot (Err e) = tt
 
 module _ (old new : Handles) where
-  handle_word : (command : HandleCommand) (answer : Answer) → AnswersWord (OfLoading (OfHandles command)) → HandleStep old command answer new → WordAnswer answer
+  handle_word : (command : HandleCommand) (answer : Answer) → AnswersWord (OfHandles command) → HandleStep old command answer new → WordAnswer answer
   handle_word (GlobalAlloc flags size) (calls.Answer.Word n) k h = tt
   handle_word (GlobalAlloc flags size) answer k h = absurd h
   handle_word (GlobalFree handle) answer k h =
@@ -73,21 +73,27 @@ module _ (old new : Handles) where
   handle_word (GlobalUnlock handle) answer k h = rw h.0 (by_name WordAnswer _ _ (tt) (λ slot. by_result _ _ (tt) (λ _. tt) (after_unlock old.heap slot)) (slot_of_handle old handle))
   handle_word (GlobalLRUNewest handle) answer k h = rw h.0 (order_word after_newest old handle)
   handle_word (GlobalLRUOldest handle) answer k h = rw h.0 (order_word after_oldest old handle)
-  handle_word command answer k h = absurd k
+  handle_word (GlobalFlags handle) answer k h = rw h.0 tt
+  handle_word command answer k h = cc
 
-  handle_dword : (command : HandleCommand) (answer : Answer) → AnswersDword (OfLoading (OfHandles command)) → HandleStep old command answer new → DwordAnswer answer
+  handle_dword : (command : HandleCommand) (answer : Answer) → AnswersDword (OfHandles command) → HandleStep old command answer new → DwordAnswer answer
   handle_dword (GlobalLock handle) answer k h = rw h.0 (lock_dword old handle)
   handle_dword (GlobalCompact size) (calls.Answer.Dword n) k h = tt
   handle_dword (GlobalCompact size) answer k h = absurd h
-  handle_dword command answer k h = absurd k
+  handle_dword (GlobalSize handle) answer k h = rw h.0 tt
+  handle_dword (GlobalHandle selector) answer k h = rw h.0 tt
+  handle_dword (GetSelectorBase selector) answer k h = rw h.0 tt
+  handle_dword (GetSelectorLimit selector) answer k h = rw h.0 tt
+  handle_dword Moved answer k h = rw h.0 tt
+  handle_dword command answer k h = cc
 
-  handles_word : (command : HandleCommand) (reply : Reply) → AnswersWord (OfLoading (OfHandles command)) → HandleReplies old command reply new → IsWord reply
+  handles_word : (command : HandleCommand) (reply : Reply) → AnswersWord (OfHandles command) → HandleReplies old command reply new → IsWord reply
   handles_word command (Word n) k h = tt
   handles_word command (Dword n) k h = handle_word command (calls.Answer.Dword n) k h
   handles_word command (Walked n) k h = handle_word command (calls.Answer.Walked n) k h
   handles_word command reply k h = absurd h
 
-  handles_dword : (command : HandleCommand) (reply : Reply) → AnswersDword (OfLoading (OfHandles command)) → HandleReplies old command reply new → IsDword reply
+  handles_dword : (command : HandleCommand) (reply : Reply) → AnswersDword (OfHandles command) → HandleReplies old command reply new → IsDword reply
   handles_dword command (Word n) k h = handle_dword command (calls.Answer.Word n) k h
   handles_dword command (Dword n) k h = tt
   handles_dword command (Walked n) k h = handle_dword command (calls.Answer.Walked n) k h
@@ -100,28 +106,32 @@ module _ (old new : Handles) where
 
 module _ (old new : World) where
   local_word : (command : LocalCommand) (reply : Reply) → AnswersWord (OfLocals command) → LocalStep old command reply new → IsWord reply
-  local_word (DS selector) Done k h = absurd k
+  local_word (DS selector) Done k h = cc
   local_word command (Word n) k h = tt
   local_word command reply k h = absurd h
 
   pub word_reply : (command : Command) (reply : Reply) → AnswersWord command → KernelStep (Unit {0}) old command reply new → IsWord reply
-  word_reply (OfLoading (OfHandles command)) reply k step = let h = step.step.0.step in handles_word old.loading.handles h.0 command reply k h.1
-  word_reply (OfLoading (OfResizes command)) reply k step = let h = step.step.0.step in resizes_word old.loading.handles h.0 command reply h.1
+  word_reply (OfHandles command) reply k step = let h = step.step.0.step in handles_word old.loading.handles h.0 command reply k h.1
+  word_reply (OfResizes command) reply k step = let h = step.step.0.step in resizes_word old.loading.handles h.0 command reply h.1
   word_reply (OfLocals command) reply k step = local_word command reply k step.step
-  word_reply (OfLoading (OfModules (Builtin name))) reply k step = rw step.step.0.step.1 tt
-  word_reply (OfLoading (OfModules (FreeLibrary handle))) reply k step = rw step.step.0.step.1 tt
-  word_reply (OfLoading (OfModules (FreeModule handle))) reply k step = rw step.step.0.step.1 tt
-  word_reply (OfLoading (OfModules (GetModuleHandle name))) reply k step = rw step.step.0.step.0 tt
-  word_reply (OfLoading (OfModules (GetModuleUsage handle))) reply k step = rw step.step.0.step.0 tt
-  word_reply (OfLoading (OfResources (FindResource handle name kind))) reply k step = rw step.step.0.step.0 tt
-  word_reply (OfLoading (OfResources (FreeResource handle))) reply k step = rw step.step.0.step.0 tt
-  word_reply command reply k step = absurd k
+  word_reply (OfModules (Builtin name)) reply k step = rw step.step.0.step.1 tt
+  word_reply (OfModules (FreeLibrary handle)) reply k step = rw step.step.0.step.1 tt
+  word_reply (OfModules (FreeModule handle)) reply k step = rw step.step.0.step.1 tt
+  word_reply (OfModules (GetModuleHandle name)) reply k step = rw step.step.0.step.0 tt
+  word_reply (OfModules (GetModuleUsage handle)) reply k step = rw step.step.0.step.0 tt
+  word_reply (OfResources (FindResource handle name kind)) reply k step = rw step.step.0.step.0 tt
+  word_reply (OfResources (FreeResource handle)) reply k step = rw step.step.0.step.0 tt
+  word_reply (OfFar (Read pointer count)) reply k step = cc
+  word_reply command reply k step = cc
 
   pub dword_reply : (command : Command) (reply : Reply) → AnswersDword command → KernelStep (Unit {0}) old command reply new → IsDword reply
-  dword_reply (OfLoading (OfHandles command)) reply k step = let h = step.step.0.step in handles_dword old.loading.handles h.0 command reply k h.1
-  dword_reply (OfLoading (OfModules (GetProcAddress handle label))) reply k step = rw step.step.0.step.0 tt
-  dword_reply (OfLoading (OfResources (SizeofResource handle place))) reply k step = rw step.step.0.step.0 tt
-  dword_reply command reply k step = absurd k
+  dword_reply (OfHandles command) reply k step = let h = step.step.0.step in handles_dword old.loading.handles h.0 command reply k h.1
+  dword_reply (OfModules (GetProcAddress handle label)) reply k step = rw step.step.0.step.0 tt
+  dword_reply (OfResources (SizeofResource handle place)) reply k step = rw step.step.0.step.0 tt
+  dword_reply (OfResizes (GlobalDiscard handle)) reply k step = cc
+  dword_reply (OfFar (Read pointer count)) reply k step = cc
+  dword_reply (OfLocals (DS selector)) reply k step = cc
+  dword_reply command reply k step = cc
 
 -- Loads, and locks of resources.
 
@@ -179,13 +189,23 @@ module _ (F : Fetching) (old : LoadingWorld) (reply : Reply) (new : LoadingWorld
 
 module _ (old new : World) where
   pub fetched_reply : (command : Command) (reply : Reply) → FetchesWord command → KernelStep (Unit {0}) old command reply new → IsOrFailure IsWord reply
-  fetched_reply (OfLoading (OfModules (LoadModule file))) reply k step = let h = step.step.0.step in rw h.1 (load_answer h.0)
-  fetched_reply (OfLoading (OfModules (LoadLibrary file))) reply k step = let h = step.step.0.step in rw h.1 (load_answer h.0)
-  fetched_reply (OfLoading (OfResources (LoadResource handle place))) reply k step = load_word (over old new) old.loading reply _ handle place step.step.0.step
-  fetched_reply command reply k step = absurd k
+  fetched_reply (OfModules (LoadModule file)) reply k step = let h = step.step.0.step in rw h.1 (load_answer h.0)
+  fetched_reply (OfModules (LoadLibrary file)) reply k step = let h = step.step.0.step in rw h.1 (load_answer h.0)
+  fetched_reply (OfResources (LoadResource handle place)) reply k step = load_word (over old new) old.loading reply _ handle place step.step.0.step
+  fetched_reply (OfHandles (GlobalFree handle)) reply k step = cc
+  fetched_reply (OfResizes (GlobalDiscard handle)) reply k step = cc
+  fetched_reply (OfFar (Read pointer count)) reply k step = cc
+  fetched_reply (OfLocals (DS selector)) reply k step = cc
+  fetched_reply command reply k step = cc
 
-  pub locked_reply : (handle : ℕ) (reply : Reply) → KernelStep (Unit {0}) old (OfLoading (OfResources (LockResource handle))) reply new → IsOrFailure IsDword reply
-  locked_reply handle reply step = locked_dword (over old new) old.loading reply _ handle step.step.0.step
+  pub locked_reply : (command : Command) (reply : Reply) → FetchesDword command → KernelStep (Unit {0}) old command reply new → IsOrFailure IsDword reply
+  locked_reply (OfResources (LockResource handle)) reply k step = locked_dword (over old new) old.loading reply _ handle step.step.0.step
+  locked_reply (OfHandles (GlobalFree handle)) reply k step = cc
+  locked_reply (OfResizes (GlobalDiscard handle)) reply k step = cc
+  locked_reply (OfFar (Read pointer count)) reply k step = cc
+  locked_reply (OfModules (Builtin name)) reply k step = cc
+  locked_reply (OfLocals (DS selector)) reply k step = cc
+  locked_reply command reply k step = cc
 
 -- what is told of such a reply is what the call answers
 pub fetches : (made : ℕ → Reply) (old : Held) (command : Command) (status : ℕ) (reply : Reply) (before answer : ℕ) (new : Held) → Tells made status reply before answer → Makes old command reply new
@@ -218,13 +238,17 @@ module _ (old new : World) where
   local_done (DS selector) Done k h = tt
   local_done (DS selector) (Word n) k h = absurd h
   local_done (DS selector) reply k h = absurd h
-  local_done command reply k h = absurd k
+  local_done command reply k h = cc
 
   pub write_reply : (command : Command) (reply : Reply) → IsWrite command → KernelStep (Unit {0}) old command reply new → IsDoneOrFault reply
-  write_reply (OfLoading (OfFar (Write pointer bytes))) reply k step = accessed IsDoneOrFault (over old new) _ _ _ _ _ (λ w. write_done w.handles (selector_in pointer) (offset_in pointer) bytes) (λ f. tt) step.step.0.step
-  write_reply (OfLoading (OfFar (Fill pointer count byte))) reply k step = accessed IsDoneOrFault (over old new) _ _ _ _ _ (λ w. write_done w.handles (selector_in pointer) (offset_in pointer) (repeated count byte)) (λ f. tt) step.step.0.step
+  write_reply (OfFar (Write pointer bytes)) reply k step = accessed IsDoneOrFault (over old new) _ _ _ _ _ (λ w. write_done w.handles (selector_in pointer) (offset_in pointer) bytes) (λ f. tt) step.step.0.step
+  write_reply (OfFar (Fill pointer count byte)) reply k step = accessed IsDoneOrFault (over old new) _ _ _ _ _ (λ w. write_done w.handles (selector_in pointer) (offset_in pointer) (repeated count byte)) (λ f. tt) step.step.0.step
   write_reply (OfLocals command) reply k step = local_done command reply k step.step
-  write_reply command reply k step = absurd k
+  write_reply (OfHandles (GlobalFree handle)) reply k step = cc
+  write_reply (OfResizes (GlobalDiscard handle)) reply k step = cc
+  write_reply (OfModules (Builtin name)) reply k step = cc
+  write_reply (OfResources (FreeResource handle)) reply k step = cc
+  write_reply command reply k step = cc
 
 -- what is told of a fault is what the access answers
 pub fault_calls : (old : Held) (command : Command) (status : ℕ) (reply wanted : Reply) (new : Held) → IsFarFault reply → IsStatus status reply → Makes old command reply new → FarCalls old command status wanted new

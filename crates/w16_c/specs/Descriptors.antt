@@ -1,10 +1,11 @@
 -- What selectors tell, and looks at bytes, as C sees them.
+use Rattle.w16_c.specs
 use Rattle.std.specs.Prelude.{◌≡◌, ◌≢◌, ℕ, ◌<◌, ◌≤◌, ◌⊎◌, if◌then◌else◌, min, List, length, slice_index_or, slice_set, Option, Some, None}
 use Rattle.w16_model.specs.{declared.FarFault.FarFault, Bytes.part, Far.far_at, Far.far_bytes, Far.far_fault, Handles.Handles, Handles.offset_in, Handles.selector_in, Handles.selector_of}
 use Rattle.w16_global.specs.Peek.{selector_descriptor}
-use Rattle.w16_c.specs.declared.descriptors.TheConstants.{SLOTS}
-use Rattle.w16_c.specs.declared.status.TheConstants.{DONE, END, FAULT_SELECTOR}
-use Rattle.w16_c.specs.{declared.descriptors.Descriptor.Descriptor, Makes.fault_status}
+use specs.declared.descriptors.TheConstants.{SLOTS}
+use specs.declared.status.TheConstants.{DONE, END, FAULT_SELECTOR}
+use specs.{declared.descriptors.Descriptor.Descriptor, Makes.fault_status}
 use Rattle.w16_global.specs.declared.peek.Descriptor as global
 
 -- a descriptor with its fields in C

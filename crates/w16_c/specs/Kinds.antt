@@ -1,47 +1,28 @@
--- Which commands are answered by a word, which by a double word, and which by a fault. Questions on the global heap aren't among them: each has a call
--- of its own.
-use Rattle.w16_model.specs.Calls.HandleCommand.{GlobalAlloc, GlobalFree, GlobalLock, GlobalUnlock, GlobalCompact, GlobalLRUNewest, GlobalLRUOldest}
-use Rattle.w16_model.specs.Far.FarCommand.{Write, Fill}
-use Rattle.w16_loading.specs.Families.LoadingCommand.{OfHandles, OfResizes, OfFar, OfModules, OfResources}
-use Rattle.w16_loading.specs.Families.ModuleCommand.{Builtin, LoadModule, LoadLibrary, FreeLibrary, FreeModule, GetModuleHandle, GetModuleUsage, GetProcAddress}
-use Rattle.w16_loading.specs.Families.ResourceCommand.{FindResource, LoadResource, FreeResource, SizeofResource}
-use Rattle.w16_loading.specs.Replies.{Reply}
+-- Which commands have which kind of reply, by the table of their columns, and which replies are of each kind.
+use Rattle.std.specs.Prelude.{◌≡◌}
+use Rattle.w16_loading.specs.{Families.Command, Replies.Reply}
 use Rattle.w16_loading.specs.Replies.Reply.{Word, Dword, Done, Fault, Failed}
-use Rattle.w16_machine.specs.{LocalCalls.LocalCommand.DS, Machine.Command, Machine.Command.OfLoading, Machine.Command.OfLocals}
+use Rattle.w16_machine.specs.Columns.{columns_of}
+use Rattle.w16_machine.specs.Columns.ReplyKind.{AWord, ADword, FetchedWord, FetchedDword, OnlyDone}
 
--- by a word: a handle, a name, an offset, flags, or a count of locks
+-- by a word
 abbrev pub AnswersWord : Command → Type 0
-AnswersWord (OfLoading (OfHandles (GlobalAlloc flags size))) = Unit {0}
-AnswersWord (OfLoading (OfHandles (GlobalFree handle))) = Unit {0}
-AnswersWord (OfLoading (OfHandles (GlobalUnlock handle))) = Unit {0}
-AnswersWord (OfLoading (OfHandles (GlobalLRUNewest handle))) = Unit {0}
-AnswersWord (OfLoading (OfHandles (GlobalLRUOldest handle))) = Unit {0}
-AnswersWord (OfLoading (OfResizes command)) = Unit {0}
-AnswersWord (OfLoading (OfModules (Builtin name))) = Unit {0}
-AnswersWord (OfLoading (OfModules (FreeLibrary handle))) = Unit {0}
-AnswersWord (OfLoading (OfModules (FreeModule handle))) = Unit {0}
-AnswersWord (OfLoading (OfModules (GetModuleHandle name))) = Unit {0}
-AnswersWord (OfLoading (OfModules (GetModuleUsage handle))) = Unit {0}
-AnswersWord (OfLoading (OfResources (FindResource handle name kind))) = Unit {0}
-AnswersWord (OfLoading (OfResources (FreeResource handle))) = Unit {0}
-AnswersWord (OfLocals (DS selector)) = ⊥
-AnswersWord (OfLocals command) = Unit {0}
-AnswersWord command = ⊥
+AnswersWord command = (columns_of command).reply ≡ AWord
 
--- by a double word: a far pointer, a size, an address, or a selector and a handle
+-- by a double word
 abbrev pub AnswersDword : Command → Type 0
-AnswersDword (OfLoading (OfHandles (GlobalLock handle))) = Unit {0}
-AnswersDword (OfLoading (OfHandles (GlobalCompact size))) = Unit {0}
-AnswersDword (OfLoading (OfModules (GetProcAddress handle label))) = Unit {0}
-AnswersDword (OfLoading (OfResources (SizeofResource handle place))) = Unit {0}
-AnswersDword command = ⊥
+AnswersDword command = (columns_of command).reply ≡ ADword
 
--- by a word, unless a read of a file fails
+-- by one of these, unless a read of a file fails
 abbrev pub FetchesWord : Command → Type 0
-FetchesWord (OfLoading (OfModules (LoadModule file))) = Unit {0}
-FetchesWord (OfLoading (OfModules (LoadLibrary file))) = Unit {0}
-FetchesWord (OfLoading (OfResources (LoadResource handle place))) = Unit {0}
-FetchesWord command = ⊥
+FetchesWord command = (columns_of command).reply ≡ FetchedWord
+
+abbrev pub FetchesDword : Command → Type 0
+FetchesDword command = (columns_of command).reply ≡ FetchedDword
+
+-- only that it is done, unless an access meets a fault: writes, and DS
+abbrev pub IsWrite : Command → Type 0
+IsWrite command = (columns_of command).reply ≡ OnlyDone
 
 -- the replies
 abbrev pub IsWord : Reply → Type 0
@@ -63,10 +44,3 @@ IsDoneOrFault Done = Unit {0}
 IsDoneOrFault (Fault f) = Unit {0}
 IsDoneOrFault (Failed f) = Unit {0}
 IsDoneOrFault reply = ⊥
-
--- and those that are done without an answer, unless they meet a fault
-abbrev pub IsWrite : Command → Type 0
-IsWrite (OfLoading (OfFar (Write pointer bytes))) = Unit {0}
-IsWrite (OfLoading (OfFar (Fill pointer count byte))) = Unit {0}
-IsWrite (OfLocals (DS selector)) = Unit {0}
-IsWrite command = ⊥

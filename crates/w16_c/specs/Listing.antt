@@ -1,8 +1,7 @@
 -- What C is told of modules that are loaded.
 use Rattle.std.specs.Prelude.{◌≡◌, ◌⊎◌, ℕ, List, Option, Some, None, IfSome, option_and_then, option_map, slice_get, slice_set}
 use Rattle.w16_loading.specs.Modules.{Module, Modules, module_at}
-use Rattle.w16_kernel.specs.declared.kernel.modules.Start.{Start}
-use Rattle.w16_kernel.specs.Asked.{IsFirstModule, IsStart, segment_selector}
+use Rattle.w16_kernel.specs.{declared.kernel.modules.Start.Start, Asked.IsFirstModule, Asked.IsStart, Asked.segment_selector}
 use Rattle.w16_c.specs.declared.status.TheConstants.{DONE, END, NO_MACHINE, NO_MODULE}
 use Rattle.w16_c.specs.{declared.held.Held.Held, Files.SameMachine, Files.TellsName, Makes.IsEmpty, Makes.Stays}
 

@@ -1,12 +1,13 @@
 -- What a call on a holder leaves, and the status that it answers.
 use Rattle.w16_c.specs
 use Rattle.std.specs.Prelude.{◌≡◌, ◌≢◌, ℕ, ◌⊎◌, Bool, true, false, List, [], ◌∷◌}
-use Rattle.w16_model.specs.declared.FarFault.{FarFault}
+use Rattle.w16_model.specs.{declared.FarFault.FarFault, Far.FarCommand.Read}
 use Rattle.w16_loading.specs.Replies.Reply.{Word, Dword, Bytes, Done, Fault, Failed}
 use Rattle.w16_loading.specs.{declared.FetchFault.FetchFault, Replies.Reply}
-use Rattle.w16_model.specs.Far.FarCommand.{Read}
-use Rattle.w16_loading.specs.Families.LoadingCommand.{OfFar}
-use Rattle.w16_machine.specs.{Law.IsCommand, Law.IsSame, Machine.Command, Machine.Command.OfLoading}
+use Rattle.w16_loading.specs.Families.Command.{OfFar}
+use Rattle.w16_loading.specs.Law.{IsCommand}
+use Rattle.w16_loading.specs.Families.{Command}
+use Rattle.w16_machine.specs.{Law.IsSame}
 use Rattle.w16_writes.specs.Promises.{Promises}
 use Rattle.w16_global.specs.{Loans.lent_bytes, declared.loan.Place.Place}
 use Rattle.w16_kernel.specs.{Lent.IsFound, Lent.IsTaken, Lent.OfEach, Parts.KernelStep, Runs.TakesMemory}
@@ -109,7 +110,7 @@ AsksTooMuch old status new = (status ≡ BAD_SIZE) × (new ≡ old)
 -- Bytes at a place are lent: the call is a read of them. If they are to be written, it is a write of whatever bytes stand there.
 pub record IsLent (old : Held) (write : Bool) (pointer count : ℕ) (place : Place) (new : Held) : Type 0 where
   pub found : IsFound count new.world.loading.handles place
-  pub read : Makes old (OfLoading (OfFar (Read pointer count))) (Bytes (lent_bytes new.world.loading.handles place)) new
+  pub read : Makes old (OfFar (Read pointer count)) (Bytes (lent_bytes new.world.loading.handles place)) new
   pub taken : write ≡ true → IsTaken (Unit {0}) old.world pointer new.world place
 
 -- A far access whose bytes are lent, whose number goes out. Where there are none, what was lent before stays, and the status is that of a read of so
@@ -118,4 +119,4 @@ abbrev pub Lends : Held → Bool → ℕ → ℕ → ℕ → Lent → Lent → H
 Lends old write pointer count status before after new =
     ((status ≡ DONE) × (after.count ≡ count) × ((place : Place) × IsLent old write pointer count place new))
     ⊎ ((status ≡ NO_MACHINE) × (after ≡ before) × IsEmpty old new)
-    ⊎ ((status ≢ DONE) × (after ≡ before) × OfEach write pointer count (λ far. IsCommand (OfLoading (OfFar far)) → FarCalls old (OfLoading (OfFar far)) status Done new))
+    ⊎ ((status ≢ DONE) × (after ≡ before) × OfEach write pointer count (λ far. IsCommand (OfFar far) → FarCalls old (OfFar far) status Done new))

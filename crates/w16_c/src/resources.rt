@@ -1,8 +1,7 @@
 //! Calls on resources.
 ghost use Rattle.w16_loading.specs.Replies as replies;
-ghost use Rattle.w16_loading.specs.Families.LoadingCommand.{OfResources};
+ghost use Rattle.w16_loading.specs.Families.Command.{OfResources};
 ghost use Rattle.w16_loading.specs.Families.ResourceCommand.{FindResource};
-ghost use Rattle.w16_machine.specs.Machine.Command.{OfLoading};
 ghost use Rattle.w16_kernel.specs.Runs.{command_of, reply_of};
 ghost use Rattle.w16_kernel.specs.declared.call.Call.TheVariants as calls;
 ghost use Rattle.w16_c.specs.Files.{label_in};
@@ -29,7 +28,7 @@ pub extern "C" fn w16_find_resource(
     kind_number: u16,
     place: &mut u16,
 ) -> u8
-    ensures { WordCalls held.old (OfLoading (OfResources (FindResource handle (label_in name.now name_number) (label_in kind.now kind_number)))) result place.old place.new held.new }
+    ensures { WordCalls held.old (OfResources (FindResource handle (label_in name.now name_number) (label_in kind.now kind_number))) result place.old place.new held.new }
 {
     word(
         alloc,

@@ -1,7 +1,6 @@
 -- The names of definitions and of lower crates that the proofs of this crate cite, passed on from one place. Declares nothing.
 pub use Rattle.std.proofs.Common.{Err, None, Option, Some, filter, if◌then◌else◌, nat_le, rules, vec_capacity, vec_len, ◌==◌}
-pub use Rattle.std.proofs.lemmas.List.{map_push}
-pub use Rattle.std.proofs.lemmas.List.{length-map, length-take-le, take_all}
+pub use Rattle.std.proofs.lemmas.List.{map_push, length-map, length-take-le, take_all}
 pub use Rattle.std.proofs.lemmas.Option.{slice_get_within}
 pub use Rattle.std.specs.List.{slice_get}
 pub use Rattle.std.specs.Prelude.{IfNone, IfOk, OnErr, MatchBool, MatchOption, Ok, Result, ◌%◌, ◌+◌, ◌-◌, ◌/◌, ◌≢◌}
@@ -10,8 +9,7 @@ pub use Rattle.w16_format.specs.Tables.{segment_in, tables_in}
 pub use Rattle.w16_global.proofs.Common.{common_steps, take_more}
 pub use Rattle.w16_kernel.specs.Fetching.{IsAbsent, IsSourceFor, KernelFetch, Refetches}
 pub use Rattle.w16_resource.specs.Parts.{IsLoadingOver}
-pub use Rattle.w16_kernel.specs.Parts.{IsWorldOver, KernelStep, OnLocals, OthersStay, ReadsCode, Unswept, discardable_beside, may_take_bytes}
-pub use Rattle.w16_kernel.specs.Parts.{object_slot, surviving_heaps, with_surviving, word_of, world_of}
+pub use Rattle.w16_kernel.specs.Parts.{IsWorldOver, KernelStep, OnLocals, OthersStay, ReadsCode, Unswept, discardable_beside, object_slot, surviving_heaps, with_surviving, word_of, world_of}
 pub use Rattle.w16_kernel.specs.Runs.{TakesMemory, answer_of, command_of, label_of, load_command, reply_of, write_of}
 pub use Rattle.w16_kernel.specs.Stops.{StopsEarly}
 pub use Rattle.w16_kernel.specs.declared.call.Answer.{Answer}
@@ -28,11 +26,12 @@ pub use Rattle.w16_loading.specs.Families.{FamilyStep}
 pub use Rattle.w16_loading.specs.Owner.{owner_of}
 pub use Rattle.w16_local.proofs.Beginning.{on_any}
 pub use Rattle.w16_machine.proofs.Common.{AreHandles, Bool, Command, Discardable, Dword, Event, Failed, FarAnswer, FarCommand, FarFault, FarReplies, FetchFault, Fill, FinMap, Fixed}
-pub use Rattle.w16_machine.proofs.Common.{Handles, Heap, IfSome, IsCommand, IsLoadingWorld, IsLocalIn, IsSomeAnd, Kind, List, LoadingCommand, LoadingWorld, Moveable, Object}
-pub use Rattle.w16_machine.proofs.Common.{OfFar, OfHandles, OfLoading, OfLocals, OfModules, OfResizes, OfResources, Read, Reply, Run, Step, Table, Word, World, Write, [], after_loading, answer_in, ap}
+pub use Rattle.w16_machine.proofs.Common.{Handles, Heap, IfSome, IsCommand, IsLoadingWorld, IsLocalIn, IsOfLocals, IsSomeAnd, Kind, List, LoadingStep, LoadingWorld, Moveable, Object}
+pub use Rattle.w16_machine.proofs.Common.{OfFar, OfHandles, OfLocals, OfModules, OfResizes, OfResources, Read, Reply, Run, Step, Table, Word, World, Write, [], after_loading, answer_in, ap}
 pub use Rattle.w16_machine.proofs.Common.{arith, bytes_at, bytes_in, cond, data_write, false, false≢true, far_fault, far_slot, get-retain_keys, get_or, gives}
-pub use Rattle.w16_machine.proofs.Common.{has_range, inl, inr, is_in_order, is_member, is_some, left_in, length, nat_cmp, nat_cmp-IsAntisymmetric}
-pub use Rattle.w16_machine.proofs.Common.{nat_cmp_total, needs_fetch, object_at, offset_in, option_map, owned_at}
+pub use Rattle.w16_machine.proofs.Common.{has_range, inl, inr, is_in_order, is_member, is_some, left_in, length, nat_cmp}
+pub use Rattle.w16_machine.proofs.Common.{nat_cmp-IsAntisymmetric, nat_cmp_total, needs_fetch, object_at, offset_in, option_map}
+pub use Rattle.w16_machine.proofs.Common.{owned_at}
 pub use Rattle.w16_machine.proofs.Common.{refl, refuses_write, reply_of_far, same_map, selector_in, subst, sym, take, taken_here, taken_other, true, unwrap_or, with_handles, ℕ, ◌&&◌, ◌<◌, ◌∙◌, ◌∷◌}
 pub use Rattle.w16_machine.proofs.Common.{◌≡◌, ◌≤◌}
 unfoldable pub use Rattle.w16_machine.proofs.Common.{repeated}
@@ -40,6 +39,7 @@ pub use Rattle.w16_machine.proofs.Runs.{run_append}
 pub use Rattle.w16_machine.proofs.LocalStays.{heaps_law}
 pub use Rattle.w16_machine.proofs.Stepped.{handles_step}
 pub use Rattle.w16_machine.proofs.Worlds.{files_law, world_law}
+pub use Rattle.w16_machine.specs.Columns.{may_take_bytes}
 pub use Rattle.w16_machine.specs.LocalStays.{step_may_take}
 pub use Rattle.w16_machine.specs.Machine.{Steps}
 pub use Rattle.w16_machine.specs.Law.{IsSame}

@@ -1,12 +1,11 @@
 -- Where objects stay as they are, so do descriptors.
 use Rattle.std.specs.Prelude.{◌≡◌, ◌-◌, ℕ, List, Option, Some, None, is_some, length, option_map, unwrap_or}
 use Rattle.w16_kernel.proofs.Common.{ne_format, refl, sym, ap, ◌∙◌}
-use Rattle.w16_model.specs.{Calls.global_handle, Calls.selector_base, Calls.selector_limit, Handles.Handles, Handles.Part, Handles.dword_of, Handles.handle_of}
-use Rattle.w16_model.specs.{Handles.offset_in, Handles.part_of_selector, Handles.reached, Heap.Object, Heap.bytes_at, Heap.object_at, Owned.is_code}
-use Rattle.w16_global.specs.declared.peek.Descriptor.{Descriptor}
-use Rattle.w16_global.specs.Peek.{selector_descriptor}
+use Rattle.w16_model.specs.{Calls.global_handle, Calls.selector_base, Calls.selector_limit, Handles.Handles, Handles.Part, Handles.dword_of, Handles.handle_of, Handles.offset_in}
+use Rattle.w16_model.specs.{Handles.part_of_selector, Handles.reached, Heap.Object, Heap.bytes_at, Heap.object_at, Owned.is_code}
+use Rattle.w16_global.specs.{declared.peek.Descriptor.Descriptor, Peek.selector_descriptor}
 use Rattle.w16_machine.specs.LocalStays.{HasSamePlaces}
-use Rattle.w16_machine.specs.Machine.Command.{OfLoading, OfLocals}
+use Rattle.w16_loading.specs.Families.Command.{OfLocals}
 use Rattle.w16_machine.proofs.LocalStays.{local_places_law, places_law}
 use Rattle.w16_kernel.specs.Descriptors.{DescriptorsLaw}
 
@@ -68,6 +67,6 @@ module _ (old new : Handles) (same : HasSamePlaces old new) (selector : ℕ) whe
   descriptor_same = ap (option_map (told new)) parts ∙ tells (part_of_selector old selector)
 
 pub descriptors_law : (honest : Type 0) → DescriptorsLaw honest
-descriptors_law honest old new (OfLoading command) reply is none step = descriptor_same old.loading.handles new.loading.handles
-    (places_law honest ne_format old.loading new.loading command reply none step.step.0)
 descriptors_law honest old new (OfLocals command) reply is none step = descriptor_same old.loading.handles new.loading.handles (local_places_law old new command reply is none step.step)
+descriptors_law honest old new command reply is none step = descriptor_same old.loading.handles new.loading.handles
+    (places_law honest ne_format old.loading new.loading command reply none step.step.0)

@@ -24,7 +24,7 @@ given old next (Fill pointer count byte) (Fault fault) s = (ap reply_of_far s.0,
 given old next command reply s = absurd s
 
 abbrev pub Makes : Type 0 → World → FarCommand → printed.Reply → World → Type 0
-Makes honest old command reply new = Step honest ne_format old (C.OfLoading (OfFar command)) reply new
+Makes honest old command reply new = Step honest ne_format old (OfFar command) reply new
 
 -- the selector of an access, whether the access has to fetch, and what
 abbrev selector_of : FarCommand → ℕ

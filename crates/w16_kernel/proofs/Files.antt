@@ -1,6 +1,7 @@
 -- A world stays one, and all that is loaded stays as its file says, where a file comes under a name that no file had, or one goes from which nothing is loaded.
 
-use Rattle.w16_kernel.proofs.Common.{◌≡◌, ℕ, Bool, true, false, cond, List, [], ◌∷◌, Option, Some, None, Ok, Err, IfSome, IsSomeAnd, ◌+◌, ◌<◌, ◌≤◌, is_some, subst, refl, sym, ap, ◌∙◌, false≢true, Module, module_at, ne_format, World, LoadingWorld, IsWorldOver, IsLoadingWorld}
+use Rattle.w16_kernel.proofs.Common.{◌≡◌, ℕ, Bool, true, false, cond, List, [], ◌∷◌, Option, Some, None, Ok, Err, IfSome, IsSomeAnd, ◌+◌, ◌<◌, ◌≤◌, is_some}
+use Rattle.w16_kernel.proofs.Common.{subst, refl, sym, ap, ◌∙◌, false≢true, Module, module_at, ne_format, World, LoadingWorld, IsWorldOver, IsLoadingWorld}
 use Rattle.w16_store.proofs.{Finding.file_of-nil, Finding.file_of-cons, Naming.named_by}
 use Rattle.w16_store.specs.{Files.file_of, Files.AreWith, Files.AreWithout, Names.is_named}
 use Rattle.std.specs.Prelude.{Result, OnOk, OnErr, IsTrue, IsFalse}
@@ -20,11 +21,17 @@ abbrev with_files : World → List (List ℕ × List ℕ) → World
 with_files w files = record w { loading = record w.loading { files = files } }
 
 module _ (honest : Type 0) (old : World) (is : IsWorldOver honest old) (files : List (List ℕ × List ℕ))
-    (same : (handle : ℕ) (m : Module) → module_at old.loading.modules handle ≡ Some m → is_some (file_of old.loading.files m.file) ≡ true → file_of files m.file ≡ file_of old.loading.files m.file) where
+    (same : (handle : ℕ) (m : Module) → module_at old.loading.modules handle ≡ Some m → is_some (file_of old.loading.files m.file) ≡ true
+    → file_of files m.file ≡ file_of old.loading.files m.file) where
   abbrev other : LoadingWorld
   other = record old.loading { files = files }
 
-  was_there : (P : ModuleFile → Type 0) (p : Option (List ℕ)) → IsSomeAnd (elim p as (λ _. Option ModuleFile) [ None ↦ None | Some file ↦ elim (ne_format.says file) as (λ _. Option ModuleFile) [ Ok read ↦ Some read | Err _ ↦ None ] ]) P → is_some p ≡ true
+  was_there : (P : ModuleFile → Type 0) (p : Option (List ℕ))
+      → IsSomeAnd (elim p as (λ _. Option ModuleFile) [
+        | None ↦ None
+        | Some file ↦ elim (ne_format.says file) as (λ _. Option ModuleFile)
+            [ Ok read ↦ Some read | Err _ ↦ None ]
+      ]) P → is_some p ≡ true
   was_there P None h = absurd h
   was_there P (Some file) h = refl
 
@@ -81,13 +88,16 @@ module _ (w : World) (honest : Type 0) (is : IsWorldOver honest w) (name : List 
   kept_without files gone = world_with honest w is files (λ handle m e there. gone m.file ∙ ap (λ b. cond b None (file_of w.loading.files m.file)) (of_another handle m e))
 
 -- so it does whether a file is taken away or not
-pub kept_removed : (honest : Type 0) (w : World) (store new : Growing) (name : List ℕ) (b : Bool) → IsWorldOver honest (with_files w store.files) → (IsTrue b → AreWithout name store.files new.files) → (IsFalse b → new ≡ store)
+pub kept_removed : (honest : Type 0) (w : World) (store new : Growing) (name : List ℕ) (b : Bool) → IsWorldOver honest (with_files w store.files)
+    → (IsTrue b → AreWithout name store.files new.files) → (IsFalse b → new ≡ store)
     → ((handle : ℕ) (m : Module) → handle < FIRST_MODULE + MOST_MODULES → module_at w.loading.modules handle ≡ Some m → is_named name m.file ≡ false) → IsWorldOver honest (with_files w new.files)
 kept_removed honest w store new name true is gone same others = kept_without (with_files w store.files) honest is name others new.files (gone refl)
 kept_removed honest w store new name false is gone same others = subst (λ (s : Growing). IsWorldOver honest (with_files w s.files)) (sym (same refl)) is
 
-pub removes : (honest : Type 0) (w : World) (before after : List (List ℕ × List ℕ)) (name : List ℕ) → IsWorldOver honest (with_files w before) → true ≡ is_some (file_of before name) → AreWithout name before after
-    → ((handle : ℕ) (m : Module) → handle < FIRST_MODULE + MOST_MODULES → module_at w.loading.modules handle ≡ Some m → is_named name m.file ≡ false) → RemovesFile (with_files w before) name (with_files w after)
+pub removes : (honest : Type 0) (w : World) (before after : List (List ℕ × List ℕ)) (name : List ℕ) → IsWorldOver honest (with_files w before)
+    → true ≡ is_some (file_of before name) → AreWithout name before after
+    → ((handle : ℕ) (m : Module) → handle < FIRST_MODULE + MOST_MODULES → module_at w.loading.modules handle ≡ Some m → is_named name m.file ≡ false)
+    → RemovesFile (with_files w before) name (with_files w after)
 removes honest w before after name is had gone others = record { unused = unused (with_files w before) honest is name others; had = sym had; files = gone; rest = refl }
 
 pub none_had : {X : Type 0} (o : Option X) → false ≡ is_some o → o ≡ None

@@ -1,24 +1,24 @@
 -- Far accesses that copy nothing, made once or again after a fetch, and what a borrower leaves.
+use Rattle.w16_kernel.specs
 use Rattle.w16_kernel.proofs
 use proofs.Common as C
 use proofs.Common.{◌≡◌, ℕ, Bool, true, false, false≢true, ◌<◌, List, [], length, Option, Some, None, Ok, Err, if◌then◌else◌, ◌&&◌, refl, sym}
-use proofs.Common.{ap, ◌∙◌, subst, arith, option_map, World, LoadingWorld, IsWorldOver, FarAnswer, FarFault, FarCommand, Read, Write, OfFar, OfLoading, KernelStep, FarReplies, Handles, Heap, Table}
+use proofs.Common.{ap, ◌∙◌, subst, arith, option_map, World, LoadingWorld, IsWorldOver, FarAnswer, FarFault, FarCommand, Read, Write, OfFar, KernelStep, FarReplies, Handles, Heap, Table}
 use proofs.Common.{Refetches, with_handles, left_in, selector_in, offset_in, far_fault, world_of, bytes_at, nat_le}
 use proofs.{Absent.by_fault, FarSteps.Makes, FarSteps.answered, FarSteps.ended_by, FarSteps.remade_by, Stepping.asks, Stepping.kept, Stepping.reads_code}
 use Rattle.w16_model.specs.declared.FarFault.TheVariants.{BadSelector, ReadOnly, NotPresent, Limit}
-use Rattle.w16_global.proofs.Common.{counted}
 use Rattle.w16_model.specs.{Far.pointer_in, Far.after_write, Far.far_read, Handles.Gives}
-use Rattle.std.specs.FinMap as finmap
+use Rattle.w16_global.proofs.Common.{counted}
+use Rattle.w16_global.proofs.{Loans.All-left_of, Loans.left_length, Loans.lent_written}
 use Rattle.w16_machine.proofs.LocalFar.{far_reply}
 use Rattle.w16_loading.specs.{Replies.Reply as Printed, Replies.Reply.Bytes, Replies.Reply.Done, Replies.Reply.Fault}
 use Rattle.w16_model.proofs.{Parts.All-repeated, Parts.length-repeated}
 use Rattle.w16_global.specs.{Loans.IsPlaceIn, Loans.after_lent, Loans.left_of, Loans.lent_bytes, Loans.with_bytes_there, declared.loan.Place.Place}
-use Rattle.w16_global.proofs.{Loans.All-left_of, Loans.left_length, Loans.lent_written}
-use Rattle.w16_kernel.specs.{Lent.FindsPlace, Lent.FindsPlaceOnce, Lent.IsTaken, Lent.OfEach, Lent.after_lending, Lent.with_left}
-use Rattle.w16_kernel.specs.{Runs.bytes_written, declared.call.Reply.Reply, declared.far.Written.Written}
+use specs.{Lent.FindsPlace, Lent.FindsPlaceOnce, Lent.IsTaken, Lent.OfEach, Lent.after_lending, Lent.with_left, Runs.bytes_written, declared.call.Reply.Reply, declared.far.Written.Written}
+use Rattle.std.specs.Prelude.{All}
+use Rattle.std.specs.FinMap as finmap
 use Rattle.w16_kernel.specs.declared.call.Reply.TheVariants as replies
 use Rattle.w16_kernel.specs.declared.far.Written.TheVariants as writes
-use Rattle.std.specs.Prelude.{All}
 
 -- An access that met a fault.
 module _ (old : Handles) (pointer count : ℕ) {fault : FarFault} where
@@ -71,17 +71,17 @@ same_tables before after tables same = λ i. finmap.retain_keys tables (λ q. ra
     ranges (Some t) q = by_size t.hi (bytes_at after q) ∙ ap (in_range t.hi) (same q) ∙ sym (by_size t.hi (bytes_at before q))
 
 module _ {honest : Type 0} {old : World} (is : IsWorldOver honest old) where
-  told : {command : FarCommand} {reply : Printed} {new : World} → Makes honest old command reply new → KernelStep honest old (OfLoading (OfFar command)) reply new
+  told : {command : FarCommand} {reply : Printed} {new : World} → Makes honest old command reply new → KernelStep honest old (OfFar command) reply new
   told s = record { step = s; code = reads_code honest old is _ _ _ s; requests = asks honest old is _ _ _ s }
 
-  left : {pointer count : ℕ} {reply : Printed} {new : World} → KernelStep honest old (OfLoading (OfFar (Read pointer count))) reply new → IsWorldOver honest new
-  left {pointer} {count} {reply} {new} s = kept honest old is (OfLoading (OfFar (Read pointer count))) reply new tt s.step
+  left : {pointer count : ℕ} {reply : Printed} {new : World} → KernelStep honest old (OfFar (Read pointer count)) reply new → IsWorldOver honest new
+  left {pointer} {count} {reply} {new} s = kept honest old is (OfFar (Read pointer count)) reply new tt s.step
 
   -- an access leaves a world
   pub left_by : (write : Bool) (pointer count : ℕ) (result : C.Result Place Reply) {new : World} → FindsPlace honest old write pointer count result new → IsWorldOver honest new
   left_by write pointer count (Ok place) s = left s.0
   left_by false pointer count (Err reply) s = left s
-  left_by true pointer count (Err reply) {new} s = kept honest old is (OfLoading (OfFar (Write pointer (C.repeated count 0))))
+  left_by true pointer count (Err reply) {new} s = kept honest old is (OfFar (Write pointer (C.repeated count 0)))
       (C.reply_of reply) new (All-repeated count 0 (omega arith)) (s (C.repeated count 0) (length-repeated count 0)).step
 
 -- and so does a loan, since it is a write
@@ -90,7 +90,7 @@ pub lent : {honest : Type 0} {before opened now : World} {pointer : ℕ} → ope
 lent {honest} {before} {now = now} {pointer = pointer} same place there t new =
     let bytes : List ℕ = left_of (lent_bytes now.loading.handles place) new in
     subst (λ w. IsWorldOver honest (after_lending place w new)) (sym same)
-    (kept honest before t.sound (OfLoading (OfFar (Write pointer bytes))) Done (with_left now place bytes) (All-left_of (lent_bytes now.loading.handles place) new)
+    (kept honest before t.sound (OfFar (Write pointer bytes)) Done (with_left now place bytes) (All-left_of (lent_bytes now.loading.handles place) new)
     (t.writes bytes (left_length now.loading.handles.heap place.slot place.at place.count there new)).step)
 
 -- What is left of bytes that are written over a place.
@@ -137,7 +137,7 @@ module _ (honest : Type 0) (opened old : World) (same : opened ≡ old) (is : Is
       -- made again, as the access that met the fault or as another that meets it
       remade : (command : FarCommand) → FarReplies opened.loading.handles command (Fault fault) opened.loading.handles → selector ≡ selector_in (pointer_in command)
           → (reply : Printed) (new : LoadingWorld) → new ≡ with_handles again new.handles → FarReplies again.handles command reply new.handles
-          → KernelStep honest old (OfLoading (OfFar command)) reply (world_of new (left_in new.handles.heap opened.heaps) opened.ds)
+          → KernelStep honest old (OfFar command) reply (world_of new (left_in new.handles.heap opened.heaps) opened.ds)
       remade command met named reply new rest s = told is (remade_by honest opened old same is command opened.loading refl fault met selector named again f reply new rest s)
 
       pub found_again : (place : Place) (new : LoadingWorld) → new ≡ with_handles again new.handles → FindsPlaceOnce again.handles write pointer count (Ok place) new.handles
@@ -152,7 +152,7 @@ module _ (honest : Type 0) (opened old : World) (same : opened ≡ old) (is : Is
               let written = s.2 e bytes (long ∙ s.0.1) in
               let sizes = far_reply again.handles after.handles (Write pointer bytes) (Some FarAnswer.Done) written in
               let read_sizes = far_reply again.handles new.handles (Read pointer count) (Some _) s.1 in
-              subst (λ heaps. KernelStep honest old (OfLoading (OfFar (Write pointer bytes))) Done (world_of after heaps opened.ds))
+              subst (λ heaps. KernelStep honest old (OfFar (Write pointer bytes)) Done (world_of after heaps opened.ds))
               (same_tables new.handles.heap after.handles.heap opened.heaps (λ q. sizes.sizes q ∙ sym (read_sizes.sizes q)))
               (remade (Write pointer bytes) (subst (λ w. OfEach w pointer count (λ command. FarReplies opened.loading.handles command (Fault fault) opened.loading.handles)) e
               (met opened.loading.handles pointer count write m) bytes (long ∙ s.0.1)) named Done after

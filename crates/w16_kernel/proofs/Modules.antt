@@ -9,7 +9,7 @@ use Rattle.w16_loading.specs.Families as families
 use Rattle.w16_loading.specs.Replies as printed
 
 -- a step that reads no file
-pub unread : (honest : Type 0) (old new : LoadingWorld) (command : C.LoadingCommand) (reply : printed.Reply) → new.files ≡ old.files → new.failures ≡ old.failures
+pub unread : (honest : Type 0) (old new : LoadingWorld) (command : C.Command) (reply : printed.Reply) → new.files ≡ old.files → new.failures ≡ old.failures
     → C.FamilyStep (fetching honest ne_format old new) (loading honest ne_format old new) old command reply (record new { failures = old.failures }) → C.StepOver honest ne_format old command reply new
 unread honest old new command reply files same s = record { counted = omega (arith, same); files = files; step = s }
 

@@ -1,7 +1,7 @@
 -- Runs, one step longer.
+use Rattle.w16_kernel.proofs
 use Rattle.w16_kernel.proofs.Common as C
-use Rattle.w16_kernel.proofs.Common.{World, ◌≡◌, ℕ, inl, inr, List, [], ◌∷◌, ◌++◌, map, take, refl, sym, ap, ◌∙◌, map_push, Event, Steps, Run}
-use Rattle.w16_kernel.proofs.Common.{Promises, Call, Answer, command_of, answer_of, arith, ◌≤◌}
+use proofs.Common.{World, ◌≡◌, ℕ, inl, inr, List, [], ◌∷◌, ◌++◌, map, take, refl, sym, ap, ◌∙◌, map_push, Event, Steps, Run, Promises, Call, Answer, command_of, answer_of, arith, ◌≤◌}
 
 -- the calls done so far, and their replies, are a run
 pub record Ran (steps : Steps) (old : World) (calls : List Call) (kept : List Answer) (now : World) : Type 0 where

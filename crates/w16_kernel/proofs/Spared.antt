@@ -4,8 +4,7 @@ use proofs.Common as C
 use proofs.Common.{◌≡◌, ◌≢◌, ℕ, ◌≤◌, ◌/◌, inl, inr, Bool, true, false, cond, not, ◌&&◌, ◌==◌, if◌then◌else◌, IfSome, IsSomeAnd, List, [], ◌∷◌, length, filter, Option}
 use proofs.Common.{Some, None, option_map, unwrap_or, is_some, refl, sym, ap, ◌∙◌, subst, arith, false≢true, nat_cmp, FinMap, Heap, Object}
 use proofs.Common.{Table, object_at, bytes_at, is_in_order, is_member, without, AreHandles, slot_of_handle, CallStep, handle_in, may_change, GlobalFree, GlobalCompact}
-use proofs.Common.{Calls, ReAllocs, Reply, Word, Dword, World, OfLoading, OfHandles, OfResizes, stays, IsLocalIn, has_range, left_in}
-use proofs.Common.{OthersStay}
+use proofs.Common.{Calls, ReAllocs, Reply, Word, Dword, World, OfHandles, OfResizes, stays, IsLocalIn, has_range, left_in, OthersStay}
 use proofs.Absent.{slot_in_handle}
 use Rattle.std.specs.Prelude.{◌||◌}
 use Rattle.std.proofs.lemmas.Bool.{eq-eqb, eqb-true, ne_eqb}
@@ -216,19 +215,19 @@ module _ (honest : Type 0) (old : World) (is : C.IsWorldOver honest old) (mid : 
 
   pub others_stay : (command : C.Command) (reply : Reply) → C.Unswept honest old command reply mid
       → OthersStay (C.object_slot command (C.word_of reply)) (C.discardable_beside (C.object_slot command 0) old.loading.handles.heap) mid
-  others_stay (OfLoading (OfHandles (GlobalAlloc flags size))) (Word handle) s = by_call
+  others_stay (OfHandles (GlobalAlloc flags size)) (Word handle) s = by_call
       (Calls (GlobalAlloc flags size)) (calls.Answer.Word handle) refl
       (other_call _ _) (ap (λ (w : World). w.heaps) s.1) s.0
       (length (without 0 order)) (shorter 0 (handle / 8) order none_at_0)
-  others_stay (OfLoading (OfHandles (GlobalAlloc flags size))) reply s = absurd s.0
-  others_stay (OfLoading (OfHandles (GlobalFree handle))) reply s = freed handle (C.answer_in reply) (ap (λ (w : World). w.heaps) s.1) s.0
-  others_stay (OfLoading (OfHandles (GlobalCompact size))) (Dword longest) s = by_call (Calls (GlobalCompact size)) (calls.Answer.Dword longest) refl
+  others_stay (OfHandles (GlobalAlloc flags size)) reply s = absurd s.0
+  others_stay (OfHandles (GlobalFree handle)) reply s = freed handle (C.answer_in reply) (ap (λ (w : World). w.heaps) s.1) s.0
+  others_stay (OfHandles (GlobalCompact size)) (Dword longest) s = by_call (Calls (GlobalCompact size)) (calls.Answer.Dword longest) refl
       (other_call _ _) (ap (λ (w : World). w.heaps) s.1) s.0 (length (without 0 order)) (omega arith)
-  others_stay (OfLoading (OfHandles (GlobalCompact size))) reply s = absurd s.0
-  others_stay (OfLoading (OfResizes (C.GlobalReAlloc handle size flags))) (Word answer) s = kept ((answer == 0) || (answer / 8 == handle / 8)) _ _
+  others_stay (OfHandles (GlobalCompact size)) reply s = absurd s.0
+  others_stay (OfResizes (C.GlobalReAlloc handle size flags)) (Word answer) s = kept ((answer == 0) || (answer / 8 == handle / 8)) _ _
       (λ here. by_call (ReAllocs handle size flags) (calls.Answer.Word answer) refl (same_slot _ _ _ _ here) (ap (λ (w : World). w.heaps) s.1) s.0 (length (without (handle / 8) order)) (omega arith))
-  others_stay (OfLoading (OfResizes (C.GlobalReAlloc handle size flags))) reply s = absurd s.0
-  others_stay (OfLoading (OfResizes (C.GlobalDiscard handle))) (Word answer) s = by_call (ReAllocs handle 0 C.GMEM_MOVEABLE) (calls.Answer.Word answer) refl
+  others_stay (OfResizes (C.GlobalReAlloc handle size flags)) reply s = absurd s.0
+  others_stay (OfResizes (C.GlobalDiscard handle)) (Word answer) s = by_call (ReAllocs handle 0 C.GMEM_MOVEABLE) (calls.Answer.Word answer) refl
       (discarded _ _) (ap (λ (w : World). w.heaps) s.1) s.0 (length (without (handle / 8) order)) (omega arith)
-  others_stay (OfLoading (OfResizes (C.GlobalDiscard handle))) reply s = absurd s.0
+  others_stay (OfResizes (C.GlobalDiscard handle)) reply s = absurd s.0
   others_stay command reply s = tt

@@ -39,4 +39,5 @@ IsFirstModule modules from (Some first) =
 
 -- a name of an entry of a module, by its index from 0, with its ordinal and the far pointer that this leads to
 abbrev pub export_in : Modules → ℕ → ℕ → Option (List ℕ × (ℕ × ℕ))
-export_in modules handle index = option_map (λ e. (e.0, (e.1, pointer_to (address_at (finmap.get modules) handle e.1)))) (option_and_then (λ m. slice_get m.tables.names index) (module_at modules handle))
+export_in modules handle index = option_map (λ e. (e.0, (e.1, pointer_to (address_at (finmap.get modules) handle e.1))))
+    (option_and_then (λ m. slice_get m.tables.names index) (module_at modules handle))

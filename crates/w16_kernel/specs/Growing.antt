@@ -14,7 +14,8 @@ pub record Growing : Type 0 where
   pub missed : Option (List ℕ)
 
 abbrev pub growing_code : Coded Growing
-growing_code = code_by (List (List ℕ × List ℕ) × Option (List ℕ)) (coded× (coded_list (coded× (coded_list coded_ℕ) (coded_list coded_ℕ))) (coded_option (coded_list coded_ℕ))) (λ s. (s.files, s.missed)) (λ p. record { files = p.0; missed = p.1 }) (λ _. refl)
+growing_code = code_by (List (List ℕ × List ℕ) × Option (List ℕ)) (coded× (coded_list (coded× (coded_list coded_ℕ) (coded_list coded_ℕ)))
+    (coded_option (coded_list coded_ℕ))) (λ s. (s.files, s.missed)) (λ p. record { files = p.0; missed = p.1 }) (λ _. refl)
 
 -- the name that is kept of a file, by what was said of its length: that of none, unless it is too long
 abbrev pub missed_by : Result ℕ StoreFault → List ℕ → Option (List ℕ)

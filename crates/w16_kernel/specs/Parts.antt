@@ -1,16 +1,15 @@
 -- A step over the parts of the machine that the kernel has.
-use Rattle.std.specs.Prelude.{◌≡◌, ◌≢◌, ◌≤◌, ℕ, ◌/◌, ◌==◌, ◌||◌, Bool, true, false, if◌then◌else◌, List, length, Option, Some, None, option_map, unwrap_or, IfSome, IsSomeAnd}
+use Rattle.std.specs.Prelude.{◌≡◌, ◌≢◌, ◌≤◌, ℕ, ◌/◌, ◌==◌, ◌||◌, Bool, true, if◌then◌else◌, List, length, Option, Some, None, option_map, unwrap_or, IfSome, IsSomeAnd}
 use Rattle.std.specs.{Ordering.nat_cmp, FinMap.FinMap}
 use Rattle.w16_model.specs.Calls.HandleCommand.{GlobalAlloc, GlobalFree, GlobalCompact}
 use Rattle.w16_model.specs.{Bytes.part, Changes.without, Handles.Handles, Handles.offset_in, Handles.selector_in, Handles.slot_of_selector, Heap.Heap, Table.Table, Far.FarCommand.Read}
-use Rattle.w16_loading.specs.Families.LoadingCommand.{OfHandles, OfResizes, OfFar, OfModules, OfResources}
+use Rattle.w16_loading.specs.Families.Command.{OfHandles, OfResizes, OfFar, OfModules, OfResources, OfLocals}
 use Rattle.w16_loading.specs.Modules.{IsSegmentOf, LoadingWorld, Module, with_handles}
 use Rattle.w16_loading.specs.Resizes.ResizeCommand.{GlobalReAlloc, GlobalDiscard}
-use Rattle.w16_loading.specs.{Fewest.FewestOver, Answers.StepOver, Families.LoadingCommand, Law.is_code, Fetch.segment_bytes, Law.IsOfFiles, Replies.Reply, Replies.Reply.Bytes, Replies.Reply.Word}
+use Rattle.w16_loading.specs.{Fewest.FewestOver, Answers.StepOver, Families.Command, Law.is_code, Fetch.segment_bytes, Law.IsOfFiles, Replies.Reply, Replies.Reply.Bytes, Replies.Reply.Word}
 use Rattle.w16_format.specs.Ne.{ne_format}
-use Rattle.w16_machine.specs.LocalStays.{call_may_take, modules_may_take, resources_may_take}
-use Rattle.w16_machine.specs.{World.World, Law.IsWorld, Local.has_range, Local.left_in, LocalCalls.LocalStep, Machine.Command, Law.OnHandles}
-use Rattle.w16_machine.specs.{Machine.Step, Machine.Command.OfLoading, Machine.Command.OfLocals}
+use Rattle.w16_machine.specs.Columns.{may_take_bytes}
+use Rattle.w16_machine.specs.{World.World, Law.IsWorld, Local.has_range, Local.left_in, LocalCalls.LocalStep, Law.IsOfLocals, Law.OnHandles, Machine.Step}
 use Rattle.std.specs.FinMap as finmap
 
 -- the world that these parts are
@@ -24,26 +23,26 @@ IsWorldOver honest w = IsWorld w × (honest → IsOfFiles ne_format w.loading)
 -- A step before local heaps go whose segments lost their range. A call on handles changes these alone, and a call on modules or resources leaves
 -- the tables of local heaps as they are. A far access has the heaps go itself, where it fetches.
 abbrev pub Unswept : Type 0 → World → Command → Reply → World → Type 0
-Unswept honest old (OfLoading (OfHandles command)) reply new =
+Unswept honest old (OfHandles command) reply new =
     OnHandles old.loading.handles (OfHandles command) reply new.loading.handles × (new ≡ record old { loading = with_handles old.loading new.loading.handles })
-Unswept honest old (OfLoading (OfResizes command)) reply new =
+Unswept honest old (OfResizes command) reply new =
     OnHandles old.loading.handles (OfResizes command) reply new.loading.handles × (new ≡ record old { loading = with_handles old.loading new.loading.handles })
-Unswept honest old (OfLoading (OfFar command)) reply new = Step honest ne_format old (OfLoading (OfFar command)) reply new
-Unswept honest old (OfLoading (OfModules command)) reply new =
+Unswept honest old (OfFar command) reply new = Step honest ne_format old (OfFar command) reply new
+Unswept honest old (OfModules command) reply new =
     StepOver honest ne_format old.loading (OfModules command) reply new.loading × (new ≡ record old { loading = new.loading })
-Unswept honest old (OfLoading (OfResources command)) reply new =
+Unswept honest old (OfResources command) reply new =
     StepOver honest ne_format old.loading (OfResources command) reply new.loading × (new ≡ record old { loading = new.loading })
 Unswept honest old (OfLocals command) reply new = LocalStep old command reply new
 
 -- What a call on handles alone does to them; and what one on modules or resources does to the part of the machine that has them.
 abbrev pub OnGlobal : Handles → Command → Reply → Handles → Type 0
-OnGlobal old (OfLoading (OfHandles command)) reply new = OnHandles old (OfHandles command) reply new
-OnGlobal old (OfLoading (OfResizes command)) reply new = OnHandles old (OfResizes command) reply new
+OnGlobal old (OfHandles command) reply new = OnHandles old (OfHandles command) reply new
+OnGlobal old (OfResizes command) reply new = OnHandles old (OfResizes command) reply new
 OnGlobal old command reply new = ⊥
 
 abbrev pub OnModules : Type 0 → LoadingWorld → Command → Reply → LoadingWorld → Type 0
-OnModules honest old (OfLoading (OfModules command)) reply new = StepOver honest ne_format old (OfModules command) reply new
-OnModules honest old (OfLoading (OfResources command)) reply new = StepOver honest ne_format old (OfResources command) reply new
+OnModules honest old (OfModules command) reply new = StepOver honest ne_format old (OfModules command) reply new
+OnModules honest old (OfResources command) reply new = StepOver honest ne_format old (OfResources command) reply new
 OnModules honest old command reply new = ⊥
 
 -- and one on local heaps to the world
@@ -53,32 +52,19 @@ OnLocals old command reply new = ⊥
 
 -- which calls these are
 abbrev pub IsOnGlobal : Command → Type 0
-IsOnGlobal (OfLoading (OfHandles command)) = Unit {0}
-IsOnGlobal (OfLoading (OfResizes command)) = Unit {0}
+IsOnGlobal (OfHandles command) = Unit {0}
+IsOnGlobal (OfResizes command) = Unit {0}
 IsOnGlobal command = ⊥
 
 abbrev pub IsOfModules : Command → Type 0
-IsOfModules (OfLoading (OfModules command)) = Unit {0}
-IsOfModules (OfLoading (OfResources command)) = Unit {0}
+IsOfModules (OfModules command) = Unit {0}
+IsOfModules (OfResources command) = Unit {0}
 IsOfModules command = ⊥
-
-abbrev pub IsOfLocals : Command → Type 0
-IsOfLocals (OfLocals command) = Unit {0}
-IsOfLocals command = ⊥
 
 -- the same, but that the store may have failed more often
 pub record IsSameLoading (old new : LoadingWorld) : Type 0 where
   pub counted : old.failures ≤ new.failures
   pub same : new ≡ record old { failures = new.failures }
-
--- Whether a step may take bytes of a global object, so that a sweep of local heaps is due after it.
-abbrev pub may_take_bytes : Command → Bool
-may_take_bytes (OfLoading (OfHandles command)) = call_may_take command
-may_take_bytes (OfLoading (OfResizes command)) = true
-may_take_bytes (OfLoading (OfFar command)) = false
-may_take_bytes (OfLoading (OfModules command)) = modules_may_take command
-may_take_bytes (OfLoading (OfResources command)) = resources_may_take command
-may_take_bytes (OfLocals command) = false
 
 -- the local heaps that are left where bytes may have been taken
 abbrev pub surviving_heaps : Bool → Heap → FinMap nat_cmp Table → FinMap nat_cmp Table
@@ -95,11 +81,11 @@ kept_slot handle answer = if (answer == 0) || (answer / 8 == handle / 8) then So
 -- Of the five calls of programs that may take bytes, the slot of the object that is named, or that GlobalAlloc has made by the handle that it
 -- answers: 0, which no object has, where there is none. A GlobalReAlloc that answers another handle has none.
 abbrev pub object_slot : Command → ℕ → Option ℕ
-object_slot (OfLoading (OfHandles (GlobalAlloc flags size))) answer = Some (answer / 8)
-object_slot (OfLoading (OfHandles (GlobalFree handle))) answer = Some (handle / 8)
-object_slot (OfLoading (OfHandles (GlobalCompact size))) answer = Some 0
-object_slot (OfLoading (OfResizes (GlobalReAlloc handle size flags))) answer = kept_slot handle answer
-object_slot (OfLoading (OfResizes (GlobalDiscard handle))) answer = Some (handle / 8)
+object_slot (OfHandles (GlobalAlloc flags size)) answer = Some (answer / 8)
+object_slot (OfHandles (GlobalFree handle)) answer = Some (handle / 8)
+object_slot (OfHandles (GlobalCompact size)) answer = Some 0
+object_slot (OfResizes (GlobalReAlloc handle size flags)) answer = kept_slot handle answer
+object_slot (OfResizes (GlobalDiscard handle)) answer = Some (handle / 8)
 object_slot command answer = None
 
 -- the word that a reply is, 0 of any other
@@ -120,7 +106,7 @@ OthersStay slot before w = IfSome slot
 -- discarded and is fetched for it.
 abbrev pub ReadsCode : World → Command → Reply → Type 0
 ReadsCode old command reply = (pointer count : ℕ) (bytes : List ℕ) (slot handle number : ℕ) (m : Module)
-    → command ≡ OfLoading (OfFar (Read pointer count)) → reply ≡ Bytes bytes
+    → command ≡ OfFar (Read pointer count) → reply ≡ Bytes bytes
     → slot_of_selector old.loading.handles (selector_in pointer) ≡ Some slot → IsSegmentOf old.loading slot handle number m → is_code old.loading slot ≡ true
     → IsSomeAnd (segment_bytes ne_format old.loading m number) (λ image. bytes ≡ part image (offset_in pointer) count)
 
@@ -129,4 +115,4 @@ ReadsCode old command reply = (pointer count : ℕ) (bytes : List ℕ) (slot han
 pub record KernelStep (honest : Type 0) (old : World) (command : Command) (reply : Reply) (new : World) : Type 0 where
   pub step : Step honest ne_format old command reply new
   pub code : honest → ReadsCode old command reply
-  pub requests : (asked : LoadingCommand) → command ≡ OfLoading asked → FewestOver honest ne_format old.loading asked reply new.loading
+  pub requests : (IsOfLocals command → ⊥) → FewestOver honest ne_format old.loading command reply new.loading

@@ -1,12 +1,12 @@
 -- Questions on handles, which change nothing.
 use Rattle.std.specs.Prelude.{[], ◌∷◌}
 use Rattle.w16_model.specs.Calls.{HandleCommand}
-use Rattle.w16_loading.specs.{Families.LoadingCommand.OfHandles, Replies.Reply}
-use Rattle.w16_machine.specs.{World.World, Machine.Command.OfLoading}
+use Rattle.w16_loading.specs.{Families.Command.OfHandles, Replies.Reply}
+use Rattle.w16_machine.specs.{World.World}
 use Rattle.w16_writes.specs.Promises.{Promises}
 use Rattle.w16_kernel.specs.Parts.{KernelStep}
 
 -- A call on handles is answered in a world that stays: that is a step of the machine, and keeps what each run promises.
 pub record IsAnswered (honest : Type 0) (w : World) (command : HandleCommand) (reply : Reply) : Type 0 where
-  pub step : KernelStep honest w (OfLoading (OfHandles command)) reply w
-  pub promises : Promises w (record { command = OfLoading (OfHandles command); reply = reply; after = w } ∷ [])
+  pub step : KernelStep honest w (OfHandles command) reply w
+  pub promises : Promises w (record { command = OfHandles command; reply = reply; after = w } ∷ [])

@@ -183,11 +183,12 @@ pub enum Call<'a> {
 
 impl Call<'_> {
     ghost use Rattle.std.specs.Prelude.{◌≡◌};
-    ghost use Rattle.w16_kernel.specs.Parts.{may_take_bytes, object_slot};
+    ghost use Rattle.w16_kernel.specs.Parts.{object_slot};
+    ghost use Rattle.w16_machine.specs.Columns.{may_take_bytes};
     ghost use Rattle.w16_kernel.specs.Runs.{command_of};
 
-    /// Whether the call may take bytes of an object of the global heap, and so a local heap with them: false of a far access, which has the
-    /// local heaps go itself where it fetches.
+    /// Whether the call may take bytes of an object of the global heap, and so a local heap with them: false of a far access that fetches and of a
+    /// local call for which a heap grows, since these take such local heaps away themselves.
     pub fn may_take_bytes(&self) -> bool
         ensures { result ≡ may_take_bytes (command_of self.now) }
     {

@@ -6,14 +6,13 @@ ghost use Rattle.w16_model.specs.Owned.{owned_at};
 ghost use Rattle.w16_model.specs.declared.FarFault.TheVariants.{NotPresent};
 ghost use Rattle.w16_global.specs.Owned.{LacksBytes};
 ghost use Rattle.w16_global.specs.Loans.{IsPlaceIn, lent_bytes, with_bytes_there};
-ghost use Rattle.w16_loading.specs.Families.LoadingCommand.{OfFar};
+ghost use Rattle.w16_loading.specs.Families.Command.{OfFar};
 ghost use Rattle.w16_loading.specs.Law.{IsLoadingWorld};
 ghost use Rattle.w16_loading.specs.Modules.{LoadingWorld, with_handles};
 ghost use Rattle.w16_format.specs.Ne.{ne_format};
 ghost use Rattle.w16_loader.specs.Fetching.{fault_in};
 ghost use Rattle.w16_loader.specs.Registry.{in_world};
 ghost use Rattle.w16_machine.specs.Machine.{Step};
-ghost use Rattle.w16_machine.specs.Machine.Command.{OfLoading};
 ghost use Rattle.w16_kernel.specs.Fetching.{IsAbsent, IsSourceFor, KernelFetch, Refetches};
 ghost use Rattle.w16_kernel.specs.Lent.{FindsPlace, FindsPlaceOnce, IsFarFault};
 ghost use Rattle.w16_kernel.specs.Parts.{IsWorldOver};
@@ -189,7 +188,7 @@ pub fn read<'r, S: Store + Drop, A: Allocator + Copy>(
     room: &'r mut [u8],
 ) -> Reply<'r>
     requires { IsWorldOver S.is_honest parts.old }
-    ensures step { Step S.is_honest ne_format parts.old (OfLoading (OfFar (Read pointer (length room.old)))) (reply_of result) parts.new }
+    ensures step { Step S.is_honest ne_format parts.old (OfFar (Read pointer (length room.old))) (reply_of result) parts.new }
     ensures short { length room.old ≤ MOST_READ → IsReply result }
 {
     let place = match find(parts, pointer, room.len(), false) {
@@ -256,7 +255,7 @@ pub fn write<S: Store + Drop, A: Allocator + Copy>(
     written: Written<'_>,
 ) -> Reply<'static>
     requires { IsWorldOver S.is_honest parts.old }
-    ensures step { Step S.is_honest ne_format parts.old (OfLoading (OfFar (write_of pointer written.entry))) (reply_of result) parts.new }
+    ensures step { Step S.is_honest ne_format parts.old (OfFar (write_of pointer written.entry)) (reply_of result) parts.new }
     ensures short { IsReply result }
 {
     let place = match find(parts, pointer, count_of(written), true) {

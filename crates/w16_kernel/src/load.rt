@@ -5,7 +5,7 @@ ghost use Rattle.w16_loading.specs.Families as families;
 ghost use Rattle.w16_loading.specs.Families.{pointer_to, proc_address};
 ghost use Rattle.w16_loader.specs.Loading.{load_answer};
 ghost use Rattle.w16_loading.specs.Free.{Frees};
-ghost use Rattle.w16_loading.specs.Families.LoadingCommand.{OfModules};
+ghost use Rattle.w16_loading.specs.Families.Command.{OfModules};
 ghost use Rattle.w16_loading.specs.Modules.{LoadingWorld};
 ghost use Rattle.w16_format.specs.Ne.{ne_format};
 ghost use Rattle.w16_loader.specs.Registry.{in_world};

@@ -4,7 +4,7 @@ ghost use Rattle.w16_model.specs.Handles.{handle_of};
 ghost use Rattle.w16_model.specs.{Law.IsFirstItem, Walk.IsItem};
 ghost use Rattle.w16_loading.specs.Replies as printed;
 ghost use Rattle.w16_machine.specs.{Law.IsWorldWalk, World.World};
-ghost use Rattle.w16_machine.specs.Machine.{Command};
+ghost use Rattle.w16_loading.specs.Families.{Command};
 ghost use Rattle.w16_kernel.specs.Made.{IsMade};
 ghost use Rattle.w16_kernel.specs.Parts.{KernelStep};
 ghost use Rattle.w16_kernel.specs.Runs.{IsCall};

@@ -5,11 +5,12 @@ ghost use Rattle.w16_model.specs.Walk.{IsWalk};
 ghost use Rattle.w16_resource.specs.Parts.{IsLoadingOver};
 ghost use Rattle.w16_local.specs.Parts.{with_parts};
 ghost use Rattle.w16_machine.specs.World.{World};
-ghost use Rattle.w16_machine.specs.Law.{IsCommand, IsSame};
+ghost use Rattle.w16_machine.specs.Law.{IsOfLocals, IsSame};
+ghost use Rattle.w16_loading.specs.Law.{IsCommand};
 ghost use Rattle.w16_kernel.specs.Made.{IsMade};
 ghost use Rattle.w16_kernel.specs.Runs.{command_of, reply_of, HasRoom, IsCall, IsReply, TakesMemory};
 ghost use Rattle.w16_kernel.specs.Parts as meaning;
-ghost use Rattle.w16_kernel.specs.Parts.{IsOfLocals, IsOfModules, IsOnGlobal, IsSameLoading, IsWorldOver, KernelStep, OnGlobal, OnLocals, OnModules, OthersStay, Unswept, with_surviving};
+ghost use Rattle.w16_kernel.specs.Parts.{IsOfModules, IsOnGlobal, IsSameLoading, IsWorldOver, KernelStep, OnGlobal, OnLocals, OnModules, OthersStay, Unswept, with_surviving};
 
 use crate::call::{Call, Reply};
 use crate::far::{Written, read, write};

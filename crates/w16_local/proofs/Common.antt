@@ -20,7 +20,6 @@ pub use Rattle.w16_local.specs.Steps.{MayStep, Stepped, Turns, after_step, answe
 pub use Rattle.w16_local.specs.Swept.{AreSwept}
 pub use Rattle.w16_local.specs.declared.acts.ByteOp.{ByteOp}
 pub use Rattle.w16_local.specs.declared.acts.ByteOp.TheVariants.{Alloc, Compact, Discard, Free, Realloc}
-pub use Rattle.w16_local.specs.declared.steps.TableOp.{TableOp}
 pub use Rattle.w16_local.specs.declared.steps.TableOp.TheVariants.{Enter, Lock, Modify, Unlock}
 pub use Rattle.w16_machine.proofs.Common.{Acts, All, Allocates, AllocatesIn, AllocatesObject, AreHandles, Becomes, Beginning, Bool, CompactsFewest, CompactsIn, DiscardsObject, Each-at, Each-from_All, Enters, EntersObject, FinMap, GivesUp, Handles}
 pub use Rattle.w16_machine.proofs.Common.{Heap, IfOk, IfSome, IsBlockOf, IsHeap, IsLocalTable, IsLowestFree, IsMultiple, IsNew, IsSameOutside, IsSomeAnd, IsSound, KeepsOthers, Leaves, List, LocalAlloc, LocalCompact, LocalFree, LocalHeap, LocalInit}

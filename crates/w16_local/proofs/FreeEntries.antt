@@ -1,12 +1,10 @@
 -- Entries, of which those up to a number are kept.
 use Rattle.std.proofs.lemmas.List as M
 use Rattle.std.proofs.Common.{ℕ, ◌≡◌, ◌<◌, ◌≤◌, ◌+◌, ◌-◌, ◌++◌, ◌∷◌, List, [], suc, length, take, replicate, set, get_or, nat_le, max, ◌⊎◌, true, false, Option, Some, None, if◌then◌else◌, arith, refl, sym, ap, ◌∙◌, inl, inr}
-use Rattle.std.proofs.lemmas.Bool.{cases_lt, lt-ltb}
-use Rattle.std.proofs.lemmas.List.Sums.{position_or_len_is}
-use Rattle.std.proofs.Math.Seq.{take-set-lt, take-suc-set, set-append_seam}
+use Rattle.std.proofs.{lemmas.Bool.cases_lt, lemmas.Bool.lt-ltb, lemmas.List.Sums.position_or_len_is, Math.Seq.take-set-lt, Math.Seq.take-suc-set, Math.Seq.set-append_seam}
 use Rattle.std.specs.List.{position, position_or_len}
-use Rattle.w16_local.proofs.Common as C
 use Rattle.w16_local.specs.FreeEntries.{all_of, AreKept}
+use Rattle.w16_local.proofs.Common as C
 
 module _ {used : ℕ} {kept : List ℕ} (is : AreKept used kept) where
   front : length (take used kept) ≡ used

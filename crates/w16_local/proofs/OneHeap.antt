@@ -4,8 +4,7 @@ use proofs.Common as C
 use proofs.Common.{◌≡◌, ℕ, ◌<◌, ◌≤◌, inl, inr, Bool, true, false, nat_le, if◌then◌else◌, IfErr, OnErr, OnOk, List, length, get_or, replicate, set, Option, Some, None, is_some, Result, Ok, Err, refl, sym, ap, ◌∙◌, subst, arith, position_or_len, false≢true, Entry, Kind, Refusal, Span, Heap, Table}
 use proofs.Common.{entry_at, heap_in, ArenaState, Steps, sound, LOCAL_ENTRIES, LocalHeapInvariant, Turns}
 use proofs.Entries.{HasSame, any_inside, any_memory, bit, put_here, put_others, same_free, set_free}
-use Rattle.std.proofs.lemmas.Bool.{lt-ltb}
-use Rattle.std.proofs.lemmas.List.{get_or-replicate}
+use Rattle.std.proofs.{lemmas.Bool.lt-ltb, lemmas.List.get_or-replicate}
 use Rattle.w16_arena.proofs.Fresh.{no_entry}
 
 -- A new heap.

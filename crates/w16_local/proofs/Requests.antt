@@ -1,14 +1,15 @@
 -- What becomes of a request for room in a heap, as it is or as it ends later.
+use Rattle.w16_local.specs
 use Rattle.w16_local.proofs.Common as C
 use Rattle.w16_local.proofs.Common.{◌≡◌, All, ℕ, ◌<◌, ◌≤◌, inl, inr, false, List, length, Option, Some, None, sym, ap, refl, ◌∙◌, subst, arith, false≢true, Kind, Block, Heap, IsMultiple, Table, heap_in, Acted, Done, Idle, MayAct, Writes}
 use Rattle.w16_model.specs.{declared.TheConstants.GRAIN, Ends.ending, Ends.is_answered, Heap.hold_of_object}
 use Rattle.w16_model.proofs.{AtEnds.answer_law, Heaps.block_member, Sound.sound_law}
 use Rattle.w16_machine.proofs.LocalFewest.{some_name}
-use Rattle.w16_local.specs.Growth.{Later, MayEndLater, ServedOver, SizeTold, operation_of}
-use Rattle.w16_local.specs.{declared.growth.Met.TheVariants.Lacks, declared.growth.Request.Request}
+use specs.Growth.{Later, MayEndLater, ServedOver, SizeTold, operation_of}
+use specs.{declared.growth.Met.TheVariants.Lacks, declared.growth.Request.Request}
+use specs.declared.growth.Purpose.{Purpose}
+use specs.declared.growth.Purpose.TheVariants.{New, Resize}
 use Rattle.std.specs.FinMap as finmap
-use Rattle.w16_local.specs.declared.growth.Purpose.{Purpose}
-use Rattle.w16_local.specs.declared.growth.Purpose.TheVariants.{New, Resize}
 
 -- the bytes of a segment are whole grains of the global heap
 module _ (handles : C.Handles) (is : C.AreHandles handles) (slot : ℕ) (bytes : List ℕ) (had : C.bytes_at handles.heap slot ≡ Some bytes) where

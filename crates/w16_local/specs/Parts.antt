@@ -2,8 +2,8 @@
 use Rattle.std.specs.Prelude.{◌≡◌, ◌<◌, ◌≤◌, ℕ, List, [], length, All, Some, IsSome}
 use Rattle.std.specs.{Ordering.nat_cmp, FinMap.FinMap}
 use Rattle.w16_model.specs.{Handles.Handles, Heap.bytes_at, Table.Table, Table.heap_in}
-use Rattle.w16_loading.specs.Modules.{with_handles}
-use Rattle.w16_machine.specs.{World.World, Law.empty_world, Local.IsLocalTable, Local.beginning, Local.current_heap, Local.id_named, LocalCalls.LocalCommand, LocalCalls.Answers}
+use Rattle.w16_loading.specs.{Modules.with_handles, Families.LocalCommand}
+use Rattle.w16_machine.specs.{World.World, Law.empty_world, Local.IsLocalTable, Local.beginning, Local.current_heap, Local.id_named, LocalCalls.Answers}
 use Rattle.std.specs.FinMap as finmap
 
 -- a world with these handles, tables of local heaps, and DS

@@ -10,18 +10,17 @@ pub use Rattle.w16_format.proofs.Files.{stored_law}
 pub use Rattle.w16_format.specs.Law.{IsFileOf}
 pub use Rattle.w16_format.specs.Ne.{ne_format}
 pub use Rattle.w16_format.specs.Tables.{label_in}
-pub use Rattle.w16_global.proofs.Common.{counted}
 pub use Rattle.w16_global.specs.Owned.{LacksBytes}
-pub use Rattle.w16_loader.proofs.Common.{AreHandles, Bool, Discardable, FetchFault, FinMap, Fixed, GRAIN, Handles, HasNoSlot, Held, IfNone}
-pub use Rattle.w16_loader.proofs.Common.{IfSome, IsFreeSlot, IsObjectOf, IsSomeAnd, IsWritten, Kind}
-pub use Rattle.w16_loader.proofs.Common.{LARGEST_OWNED, Less, List, LoadingWorld, MatchOption, Module, Modules, Moveable, None, Object, Ok, Option, Result, Some}
-pub use Rattle.w16_loader.proofs.Common.{TakesOwned, [], ap, arith, by_id, by_order, cases_eq, cases_lt, cond, drop}
-pub use Rattle.w16_loader.proofs.Common.{entries-insert, eq-eqb, err_from_is_err_and, false, false≢true, filter, find, get-by_id, get_or, get_or-set_other, get_or-set_same}
-pub use Rattle.w16_loader.proofs.Common.{get_or_default, get_or_past, given, inl, inr, inserted_here, inserted_other}
-pub use Rattle.w16_loader.proofs.Common.{is_in_order, is_some, le-ltb, left, len-empty, len-entries, length, length-drop, length-map, length-take}
-pub use Rattle.w16_loader.proofs.Common.{ltb-false, map, module_at, nat_cmp, nat_cmp_is, nat_cmp_total, nat_lt}
-pub use Rattle.w16_loader.proofs.Common.{ne_eqb, none_gone, not, numbered, object_at, option_map, owned_at, position, prefix_len, put, refl, refused, retained}
-pub use Rattle.w16_loader.proofs.Common.{rounded_size, rules, same_values, set, slice_get, slice_get-map, slice_index_or}
+pub use Rattle.w16_loader.proofs.Common.{AreHandles, Bool, Discardable, FetchFault, FinMap, Fixed, GRAIN, Handles, HasNoSlot, Held, IfNone, IfSome, IsFreeSlot, IsObjectOf, IsSomeAnd, IsWritten, Kind}
+pub use Rattle.w16_loader.proofs.Common.{LARGEST_OWNED, Less, List, LoadingWorld, MatchOption, Module, Modules, Moveable, None, Object, Ok}
+pub use Rattle.w16_loader.proofs.Common.{Option, Result, Some, TakesOwned, [], ap, arith, by_id, by_order, cases_eq, cases_lt, cond, drop}
+pub use Rattle.w16_loader.proofs.Common.{entries-insert, eq-eqb, err_from_is_err_and, false, false≢true, filter, find, get-by_id, get_or}
+pub use Rattle.w16_loader.proofs.Common.{get_or-set_other, get_or-set_same, get_or_default, get_or_past, inl, inr, inserted_here}
+pub use Rattle.w16_loader.proofs.Common.{inserted_other}
+pub use Rattle.w16_loader.proofs.Common.{is_in_order, is_some, le-ltb, len-empty, len-entries, length, length-drop, length-map}
+pub use Rattle.w16_loader.proofs.Common.{length-take, ltb-false, map, module_at, nat_cmp, nat_cmp_is, nat_cmp_total, nat_lt}
+pub use Rattle.w16_loader.proofs.Common.{ne_eqb, none_gone, not, numbered, object_at, option_map, owned_at, position, prefix_len, put, refl}
+pub use Rattle.w16_loader.proofs.Common.{retained, rounded_size, rules, same_values, set, slice_get, slice_get-map, slice_index_or}
 pub use Rattle.w16_loader.proofs.Common.{subst, suc, sym, tables_in, take, taken_here, taken_other, true, unwrap_or, with_object, without_objects, without_absent}
 pub use Rattle.w16_loader.proofs.Common.{without_slot, zero, ℕ, ◌%◌, ◌&&◌, ◌+◌, ◌-◌, ◌/◌, ◌<◌, ◌==◌, ◌||◌, ◌∙◌, ◌∷◌, ◌≡◌, ◌≤◌}
 pub use Rattle.w16_loader.proofs.Common.{◌⊎◌}
@@ -29,12 +28,12 @@ unfoldable pub use Rattle.w16_loader.proofs.Common.{file_of}
 pub use Rattle.w16_loader.specs.Fetching.{fetch_fault}
 pub use Rattle.w16_loader.specs.Registry.{in_world}
 pub use Rattle.w16_loading.proofs.Absences.{all_retained}
-pub use Rattle.w16_loading.proofs.Common.{MatchBool, absent, after, bytes_at, eqb-true, outcome, owned_in, owns}
+pub use Rattle.w16_loading.proofs.Common.{MatchBool, bytes_at, eqb-true, owned_in}
 pub use Rattle.w16_loading.proofs.ShrunkWorlds.{value_gone, value_left}
 pub use Rattle.w16_loading.proofs.Stepping.{freed_by, resource_load, with_count}
 pub use Rattle.w16_loading.specs.Answers.{FetchesFrom, told}
 pub use Rattle.w16_loading.specs.Fewest.{FewestOver, FillsFewest}
-pub use Rattle.w16_loading.specs.Families.LoadingCommand.{OfResources}
+pub use Rattle.w16_loading.specs.Families.Command.{OfResources}
 pub use Rattle.w16_loading.specs.Families.ResourceCommand.{LoadResource, LockResource}
 pub use Rattle.w16_loading.specs.Fetch.{Fetching, IsImage}
 pub use Rattle.w16_loading.specs.File.{Resource}
@@ -54,7 +53,6 @@ pub use Rattle.w16_model.specs.Handles.{Gives, handle_of, selector_of, slot_of_h
 pub use Rattle.w16_model.specs.Heap.{IsCounted, is_discardable}
 pub use Rattle.w16_model.specs.Owned.{is_owned}
 pub use Rattle.w16_model.specs.declared.Owned.{Owned}
-pub use Rattle.w16_ne.proofs.Common.{bit_and, size}
 pub use Rattle.w16_ne.specs.Resources.{Entry, entry_of, label_of}
 pub use Rattle.w16_reloc.specs.Segments.{Refuses}
 pub use Rattle.w16_reloc.specs.declared.fault.RelocFault.{RelocFault}

@@ -1,7 +1,7 @@
 -- How the object of a resource gets the bytes of a file.
 use Rattle.w16_resource.proofs.Common as C
 use Rattle.w16_resource.proofs.Common.{Bool, GRAIN, Held, IsWritten, LARGEST_OWNED, List, Ok, [], ap, arith, drop, false, false≢true, length, refl, rounded_size, subst, suc, sym}
-use Rattle.w16_resource.proofs.Common.{take, true, zero, ℕ, ◌<◌, ◌==◌, ◌||◌, ◌∙◌, ◌≡◌, ◌≤◌, after, Store, Owned, Entry, is_long}
+use Rattle.w16_resource.proofs.Common.{take, true, zero, ℕ, ◌<◌, ◌==◌, ◌||◌, ◌∙◌, ◌≡◌, ◌≤◌, Store, Owned, Entry, is_long}
 use Rattle.w16_reloc.specs.Sound.{IsSound}
 use Rattle.w16_loader.specs.Fetching.{GivesOwned}
 use Rattle.std.specs.FinMap as finmap

@@ -90,7 +90,8 @@ module _ {honest : Type 0} {old : LoadingWorld} (is : C.IsLoadingOver honest old
       step s e fetch stays reply (C.without_slot new.handles slot) (finmap.remove new.loads slot) ((λ i. (reply, gone i)) ∙ says (handle_of r.kind t.slot) (record new { failures = old.failures }) old)
     where
       same : record new { failures = old.failures } ≡ made
-      same = (fetch_outcome (fetch_fills (told honest ne_format old.files old.failures new.failures) made t.slot (Some fault) (record new { failures = old.failures }) (fetched s e fetch stays))).0 refl
+      same = (fetch_outcome (fetch_fills (told honest ne_format old.files old.failures new.failures) made t.slot (Some fault)
+          (record new { failures = old.failures }) (fetched s e fetch stays))).0 refl
 
       gone : record new { handles = C.without_slot new.handles slot; loads = finmap.remove new.loads slot; failures = old.failures } ≡ old
       gone = (λ i. record (same i) { handles = C.without_slot (same i).handles ((s ∙ at) i); loads = finmap.remove (same i).loads ((s ∙ at) i) })

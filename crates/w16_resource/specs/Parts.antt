@@ -2,9 +2,8 @@
 use Rattle.std.specs.Prelude.{ℕ, List, Option, Result, Ok, Err}
 use Rattle.std.specs.{Ordering.nat_cmp, FinMap.FinMap}
 use Rattle.w16_model.specs.Handles.{Handles}
-use Rattle.w16_loading.specs.{declared.FetchFault.FetchFault, Answers.FetchesFrom, Answers.told, Fewest.FillsFewest}
-use Rattle.w16_loading.specs.{Law.IsLoadingWorld, Law.IsOfFiles, Modules.Load, Modules.LoadingWorld, Modules.Modules}
-use Rattle.w16_loading.specs.{Replies.Reply, Replies.Reply.Word, Replies.Reply.Dword, Replies.Reply.Failed}
+use Rattle.w16_loading.specs.{declared.FetchFault.FetchFault, Answers.FetchesFrom, Answers.told, Fewest.FillsFewest, Law.IsLoadingWorld, Law.IsOfFiles, Modules.Load, Modules.LoadingWorld}
+use Rattle.w16_loading.specs.{Modules.Modules, Replies.Reply, Replies.Reply.Word, Replies.Reply.Dword, Replies.Reply.Failed}
 use Rattle.w16_format.specs.Ne.{ne_format}
 
 -- the world that these parts are

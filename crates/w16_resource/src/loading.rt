@@ -3,7 +3,7 @@ ghost use Rattle.std.specs.Prelude.{◌≡◌, ◌≤◌, ◌<◌, ℕ, true, fa
 ghost use Rattle.w16_store.specs.Later.{IsLater, RoseIf};
 ghost use Rattle.w16_model.specs.Calls.{rounded_size};
 ghost use Rattle.w16_loading.specs.Fewest.{FewestOver};
-ghost use Rattle.w16_loading.specs.Families.LoadingCommand.{OfResources};
+ghost use Rattle.w16_loading.specs.Families.Command.{OfResources};
 ghost use Rattle.w16_loading.specs.Families.ResourceCommand.{LoadResource};
 ghost use Rattle.w16_loading.specs.File as file;
 ghost use Rattle.w16_loading.specs.Modules.{LoadingWorld};

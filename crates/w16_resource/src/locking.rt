@@ -2,7 +2,7 @@
 ghost use Rattle.std.specs.Prelude.{◌≡◌, ◌<◌, ℕ, true, Some, option_map, IfSome, IfErr};
 ghost use Rattle.w16_store.specs.Later.{IsLater, RoseIf};
 ghost use Rattle.w16_loading.specs.Fewest.{FewestOver};
-ghost use Rattle.w16_loading.specs.Families.LoadingCommand.{OfResources};
+ghost use Rattle.w16_loading.specs.Families.Command.{OfResources};
 ghost use Rattle.w16_loading.specs.Families.ResourceCommand.{LockResource};
 ghost use Rattle.w16_loading.specs.Modules.{LoadingWorld};
 ghost use Rattle.w16_loading.specs.Resource.{lock_outcome, slot_of_resource};

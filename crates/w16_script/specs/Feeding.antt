@@ -2,7 +2,8 @@
 use Rattle.w16_script.specs
 use Rattle.std.specs.Prelude.{◌≡◌, ℕ, ◌+◌, List, [], ◌∷◌, ◌++◌, length, map, count_by, Option}
 use Rattle.std.specs.{List.flat_map, List.AllByRecursion, Io.KnownBytes.Keeps}
-use Rattle.w16_machine.specs.{Law.IsSame, Machine.Command, Machine.Event, Machine.Run, Machine.Steps}
+use Rattle.w16_machine.specs.{Law.IsSame, Machine.Event, Machine.Run, Machine.Steps}
+use Rattle.w16_loading.specs.Families.{Command}
 use Rattle.w16_writes.specs.Promises.{Promises}
 use Rattle.w16_kernel.specs.Runs.{TakesMemory}
 use specs.declared.outcome.RunFault.TheVariants.{Write, Memory, TooLong}

@@ -3,17 +3,17 @@ use Rattle.std.specs.Prelude.{◌≡◌, ◌≢◌, ℕ, suc, ◌^◌, ◌<◌, 
 use Rattle.std.specs.{Char.is_ascii_graphic, List.list_all, List.slice_get}
 use Rattle.hex.specs.Hex.{decode_of}
 use Rattle.w16_script.specs.{declared.name.Name.Name, declared.arguments.Parameter.Parameter, declared.bytes.TheConstants.MOST_BYTES, Words.words_of, Registers.IsRegister, Numbers.IsLiteral, Numbers.IsNumber}
-use Rattle.w16_loading.specs.Families.LoadingCommand.{OfHandles, OfResizes, OfFar, OfModules, OfResources}
-use Rattle.w16_machine.specs.{Machine.Command, Machine.Command.OfLoading, Machine.Command.OfLocals}
+use Rattle.w16_loading.specs.Families.Command.{OfHandles, OfResizes, OfFar, OfModules, OfResources, OfLocals}
+use Rattle.w16_loading.specs.Families.ModuleCommand.{Builtin, LoadModule, LoadLibrary, FreeLibrary, FreeModule, GetModuleHandle, GetModuleUsage, GetProcAddress}
+use Rattle.w16_loading.specs.Families.ResourceCommand.{FindResource, LoadResource, LockResource, FreeResource, SizeofResource}
+use Rattle.w16_loading.specs.Families.LocalCommand.{LocalInit, LocalAlloc, LocalReAlloc, LocalDiscard, LocalFree, LocalLock, LocalUnlock, LocalSize, LocalFlags, LocalHandle, LocalCompact, DS}
+use Rattle.w16_loading.specs.{Families.Command, Resizes.ResizeCommand.GlobalReAlloc, Resizes.ResizeCommand.GlobalDiscard}
 use Rattle.w16_kernel.specs.declared.call.TheConstants.{MOST_READ, MOST_FILLED}
+use Rattle.w16_model.specs.Calls.HandleCommand.{GlobalAlloc, GlobalFree, GlobalLock, GlobalUnlock, GlobalSize, GlobalFlags, GlobalHandle, GetSelectorBase, GetSelectorLimit, GlobalCompact, GlobalLRUNewest, GlobalLRUOldest, Moved, Walk}
+use Rattle.w16_model.specs.Far.FarCommand.{Read, Write, Fill}
 use Rattle.w16_script.specs.declared.name.Name.TheVariants as name
 use Rattle.w16_script.specs.declared.arguments.Parameter.TheVariants as p
-use Rattle.w16_model.specs.Calls as calls
-use Rattle.w16_model.specs.Far as far
-use Rattle.w16_loading.specs.Families as families
 use Rattle.w16_loading.specs.File as files
-use Rattle.w16_loading.specs.Resizes as resizes
-use Rattle.w16_machine.specs.LocalCalls as locals
 
 -- An argument as a value, and the value at a place in a list of them: 0, or no bytes and no text, where there is no such argument.
 
@@ -112,67 +112,51 @@ pub record Row : Type 0 where
 abbrev row : {Family : Type 0} → (Family → Command) → List ℕ → (parameters : List Parameter) → Maker Family parameters → Row
 row {Family} of_family text parameters maker = record { text = text; parameters = parameters; command = λ arguments. of_family (made Family parameters maker arguments 0) }
 
--- the families below local heaps
-abbrev of_handles : calls.HandleCommand → Command
-of_handles command = OfLoading (OfHandles command)
-
-abbrev of_resizes : resizes.ResizeCommand → Command
-of_resizes command = OfLoading (OfResizes command)
-
-abbrev of_far : far.FarCommand → Command
-of_far command = OfLoading (OfFar command)
-
-abbrev of_modules : families.ModuleCommand → Command
-of_modules command = OfLoading (OfModules command)
-
-abbrev of_resources : families.ResourceCommand → Command
-of_resources command = OfLoading (OfResources command)
-
 abbrev pub row_of : Name → Row
-row_of name.GlobalAlloc = row of_handles (codes "GlobalAlloc") (p.Word ∷ p.Dword ∷ []) calls.HandleCommand.GlobalAlloc
-row_of name.GlobalFree = row of_handles (codes "GlobalFree") (p.Word ∷ []) calls.HandleCommand.GlobalFree
-row_of name.GlobalLock = row of_handles (codes "GlobalLock") (p.Word ∷ []) calls.HandleCommand.GlobalLock
-row_of name.GlobalUnlock = row of_handles (codes "GlobalUnlock") (p.Word ∷ []) calls.HandleCommand.GlobalUnlock
-row_of name.GlobalSize = row of_handles (codes "GlobalSize") (p.Word ∷ []) calls.HandleCommand.GlobalSize
-row_of name.GlobalFlags = row of_handles (codes "GlobalFlags") (p.Word ∷ []) calls.HandleCommand.GlobalFlags
-row_of name.GlobalHandle = row of_handles (codes "GlobalHandle") (p.Word ∷ []) calls.HandleCommand.GlobalHandle
-row_of name.GetSelectorBase = row of_handles (codes "GetSelectorBase") (p.Word ∷ []) calls.HandleCommand.GetSelectorBase
-row_of name.GetSelectorLimit = row of_handles (codes "GetSelectorLimit") (p.Word ∷ []) calls.HandleCommand.GetSelectorLimit
-row_of name.GlobalCompact = row of_handles (codes "GlobalCompact") (p.Dword ∷ []) calls.HandleCommand.GlobalCompact
-row_of name.GlobalReAlloc = row of_resizes (codes "GlobalReAlloc") (p.Word ∷ p.Dword ∷ p.Word ∷ []) resizes.ResizeCommand.GlobalReAlloc
-row_of name.GlobalDiscard = row of_resizes (codes "GlobalDiscard") (p.Word ∷ []) resizes.ResizeCommand.GlobalDiscard
-row_of name.GlobalLRUNewest = row of_handles (codes "GlobalLRUNewest") (p.Word ∷ []) calls.HandleCommand.GlobalLRUNewest
-row_of name.GlobalLRUOldest = row of_handles (codes "GlobalLRUOldest") (p.Word ∷ []) calls.HandleCommand.GlobalLRUOldest
-row_of name.Moved = row of_handles (codes "Moved") [] calls.HandleCommand.Moved
-row_of name.Walk = row of_handles (codes "Walk") [] calls.HandleCommand.Walk
-row_of name.Read = row of_far (codes "Read") (p.Dword ∷ p.Count MOST_READ ∷ []) far.FarCommand.Read
-row_of name.Write = row of_far (codes "Write") (p.Dword ∷ p.Bytes ∷ []) far.FarCommand.Write
-row_of name.Fill = row of_far (codes "Fill") (p.Dword ∷ p.Count MOST_FILLED ∷ p.Byte ∷ []) far.FarCommand.Fill
-row_of name.Builtin = row of_modules (codes "Builtin") (p.Text ∷ []) families.ModuleCommand.Builtin
-row_of name.LoadModule = row of_modules (codes "LoadModule") (p.Text ∷ []) families.ModuleCommand.LoadModule
-row_of name.LoadLibrary = row of_modules (codes "LoadLibrary") (p.Text ∷ []) families.ModuleCommand.LoadLibrary
-row_of name.FreeLibrary = row of_modules (codes "FreeLibrary") (p.Word ∷ []) families.ModuleCommand.FreeLibrary
-row_of name.FreeModule = row of_modules (codes "FreeModule") (p.Word ∷ []) families.ModuleCommand.FreeModule
-row_of name.GetModuleHandle = row of_modules (codes "GetModuleHandle") (p.Text ∷ []) families.ModuleCommand.GetModuleHandle
-row_of name.GetModuleUsage = row of_modules (codes "GetModuleUsage") (p.Word ∷ []) families.ModuleCommand.GetModuleUsage
-row_of name.GetProcAddress = row of_modules (codes "GetProcAddress") (p.Word ∷ p.Label ∷ []) families.ModuleCommand.GetProcAddress
-row_of name.FindResource = row of_resources (codes "FindResource") (p.Word ∷ p.Label ∷ p.Label ∷ []) families.ResourceCommand.FindResource
-row_of name.LoadResource = row of_resources (codes "LoadResource") (p.Word ∷ p.Word ∷ []) families.ResourceCommand.LoadResource
-row_of name.SizeofResource = row of_resources (codes "SizeofResource") (p.Word ∷ p.Word ∷ []) families.ResourceCommand.SizeofResource
-row_of name.LockResource = row of_resources (codes "LockResource") (p.Word ∷ []) families.ResourceCommand.LockResource
-row_of name.FreeResource = row of_resources (codes "FreeResource") (p.Word ∷ []) families.ResourceCommand.FreeResource
-row_of name.LocalInit = row OfLocals (codes "LocalInit") (p.Word ∷ p.Word ∷ p.Dword ∷ []) locals.LocalCommand.LocalInit
-row_of name.LocalAlloc = row OfLocals (codes "LocalAlloc") (p.Word ∷ p.Word ∷ []) locals.LocalCommand.LocalAlloc
-row_of name.LocalReAlloc = row OfLocals (codes "LocalReAlloc") (p.Word ∷ p.Word ∷ p.Word ∷ []) locals.LocalCommand.LocalReAlloc
-row_of name.LocalDiscard = row OfLocals (codes "LocalDiscard") (p.Word ∷ []) locals.LocalCommand.LocalDiscard
-row_of name.LocalFree = row OfLocals (codes "LocalFree") (p.Word ∷ []) locals.LocalCommand.LocalFree
-row_of name.LocalLock = row OfLocals (codes "LocalLock") (p.Word ∷ []) locals.LocalCommand.LocalLock
-row_of name.LocalUnlock = row OfLocals (codes "LocalUnlock") (p.Word ∷ []) locals.LocalCommand.LocalUnlock
-row_of name.LocalSize = row OfLocals (codes "LocalSize") (p.Word ∷ []) locals.LocalCommand.LocalSize
-row_of name.LocalFlags = row OfLocals (codes "LocalFlags") (p.Word ∷ []) locals.LocalCommand.LocalFlags
-row_of name.LocalHandle = row OfLocals (codes "LocalHandle") (p.Word ∷ []) locals.LocalCommand.LocalHandle
-row_of name.LocalCompact = row OfLocals (codes "LocalCompact") (p.Word ∷ []) locals.LocalCommand.LocalCompact
-row_of name.DS = row OfLocals (codes "DS") (p.Word ∷ []) locals.LocalCommand.DS
+row_of name.GlobalAlloc = row OfHandles (codes "GlobalAlloc") (p.Word ∷ p.Dword ∷ []) GlobalAlloc
+row_of name.GlobalFree = row OfHandles (codes "GlobalFree") (p.Word ∷ []) GlobalFree
+row_of name.GlobalLock = row OfHandles (codes "GlobalLock") (p.Word ∷ []) GlobalLock
+row_of name.GlobalUnlock = row OfHandles (codes "GlobalUnlock") (p.Word ∷ []) GlobalUnlock
+row_of name.GlobalSize = row OfHandles (codes "GlobalSize") (p.Word ∷ []) GlobalSize
+row_of name.GlobalFlags = row OfHandles (codes "GlobalFlags") (p.Word ∷ []) GlobalFlags
+row_of name.GlobalHandle = row OfHandles (codes "GlobalHandle") (p.Word ∷ []) GlobalHandle
+row_of name.GetSelectorBase = row OfHandles (codes "GetSelectorBase") (p.Word ∷ []) GetSelectorBase
+row_of name.GetSelectorLimit = row OfHandles (codes "GetSelectorLimit") (p.Word ∷ []) GetSelectorLimit
+row_of name.GlobalCompact = row OfHandles (codes "GlobalCompact") (p.Dword ∷ []) GlobalCompact
+row_of name.GlobalReAlloc = row OfResizes (codes "GlobalReAlloc") (p.Word ∷ p.Dword ∷ p.Word ∷ []) GlobalReAlloc
+row_of name.GlobalDiscard = row OfResizes (codes "GlobalDiscard") (p.Word ∷ []) GlobalDiscard
+row_of name.GlobalLRUNewest = row OfHandles (codes "GlobalLRUNewest") (p.Word ∷ []) GlobalLRUNewest
+row_of name.GlobalLRUOldest = row OfHandles (codes "GlobalLRUOldest") (p.Word ∷ []) GlobalLRUOldest
+row_of name.Moved = row OfHandles (codes "Moved") [] Moved
+row_of name.Walk = row OfHandles (codes "Walk") [] Walk
+row_of name.Read = row OfFar (codes "Read") (p.Dword ∷ p.Count MOST_READ ∷ []) Read
+row_of name.Write = row OfFar (codes "Write") (p.Dword ∷ p.Bytes ∷ []) Write
+row_of name.Fill = row OfFar (codes "Fill") (p.Dword ∷ p.Count MOST_FILLED ∷ p.Byte ∷ []) Fill
+row_of name.Builtin = row OfModules (codes "Builtin") (p.Text ∷ []) Builtin
+row_of name.LoadModule = row OfModules (codes "LoadModule") (p.Text ∷ []) LoadModule
+row_of name.LoadLibrary = row OfModules (codes "LoadLibrary") (p.Text ∷ []) LoadLibrary
+row_of name.FreeLibrary = row OfModules (codes "FreeLibrary") (p.Word ∷ []) FreeLibrary
+row_of name.FreeModule = row OfModules (codes "FreeModule") (p.Word ∷ []) FreeModule
+row_of name.GetModuleHandle = row OfModules (codes "GetModuleHandle") (p.Text ∷ []) GetModuleHandle
+row_of name.GetModuleUsage = row OfModules (codes "GetModuleUsage") (p.Word ∷ []) GetModuleUsage
+row_of name.GetProcAddress = row OfModules (codes "GetProcAddress") (p.Word ∷ p.Label ∷ []) GetProcAddress
+row_of name.FindResource = row OfResources (codes "FindResource") (p.Word ∷ p.Label ∷ p.Label ∷ []) FindResource
+row_of name.LoadResource = row OfResources (codes "LoadResource") (p.Word ∷ p.Word ∷ []) LoadResource
+row_of name.SizeofResource = row OfResources (codes "SizeofResource") (p.Word ∷ p.Word ∷ []) SizeofResource
+row_of name.LockResource = row OfResources (codes "LockResource") (p.Word ∷ []) LockResource
+row_of name.FreeResource = row OfResources (codes "FreeResource") (p.Word ∷ []) FreeResource
+row_of name.LocalInit = row OfLocals (codes "LocalInit") (p.Word ∷ p.Word ∷ p.Dword ∷ []) LocalInit
+row_of name.LocalAlloc = row OfLocals (codes "LocalAlloc") (p.Word ∷ p.Word ∷ []) LocalAlloc
+row_of name.LocalReAlloc = row OfLocals (codes "LocalReAlloc") (p.Word ∷ p.Word ∷ p.Word ∷ []) LocalReAlloc
+row_of name.LocalDiscard = row OfLocals (codes "LocalDiscard") (p.Word ∷ []) LocalDiscard
+row_of name.LocalFree = row OfLocals (codes "LocalFree") (p.Word ∷ []) LocalFree
+row_of name.LocalLock = row OfLocals (codes "LocalLock") (p.Word ∷ []) LocalLock
+row_of name.LocalUnlock = row OfLocals (codes "LocalUnlock") (p.Word ∷ []) LocalUnlock
+row_of name.LocalSize = row OfLocals (codes "LocalSize") (p.Word ∷ []) LocalSize
+row_of name.LocalFlags = row OfLocals (codes "LocalFlags") (p.Word ∷ []) LocalFlags
+row_of name.LocalHandle = row OfLocals (codes "LocalHandle") (p.Word ∷ []) LocalHandle
+row_of name.LocalCompact = row OfLocals (codes "LocalCompact") (p.Word ∷ []) LocalCompact
+row_of name.DS = row OfLocals (codes "DS") (p.Word ∷ []) DS
 
 -- all of them
 abbrev pub all_names : List Name

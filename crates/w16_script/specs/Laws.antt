@@ -1,7 +1,7 @@
 -- Laws of the language.
 use Rattle.std.specs.Prelude.{◌≡◌, ℕ, Bool, true, ◌||◌, ◌&&◌, ◌==◌, nat_le, List, Option}
 use Rattle.std.specs.List.{list_all}
-use Rattle.w16_machine.specs.Machine.{Command}
+use Rattle.w16_loading.specs.Families.{Command}
 use Rattle.w16_script.specs.Grammar.{Said, Reads}
 
 -- what a line says is one thing, whatever the registers have

@@ -1,7 +1,7 @@
 //! Lines of a script.
 ghost use Rattle.std.specs.Prelude.{◌≡◌, ◌≤◌, ◌<◌, [], ◌∷◌, ℕ, List, length, IfSome, IfNone, Option, Some};
 ghost use Rattle.w16_script.specs.Words.{words_of};
-ghost use Rattle.w16_machine.specs.Machine.{Command};
+ghost use Rattle.w16_loading.specs.Families.{Command};
 ghost use Rattle.w16_kernel.specs.Runs.{command_of, IsCall};
 ghost use Rattle.w16_script.specs.declared.arguments.Parameter.TheVariants as p;
 ghost use Rattle.w16_script.specs.Grammar.{Argument, Reads, GoesTo, Makes, text_of, parameters_of, command_with};

@@ -57,7 +57,8 @@ fn next_on_way<A: Allocator>(
     ensures found { IfSome result (λ next. (meaning.is_new registry.now marks.now next ≡ true) × IfSome end (λ end. meaning.refers_to registry.now end next ≡ true)) }
     ensures off { IfSome result (λ next. slice_index_or way.now next false ≡ false) }
     ensures inside { IfSome result (λ next. (next < MODULE_HANDLES) × (next < length marks.now)) }
-    ensures none { IfNone result ((other : ℕ) → meaning.is_new registry.now marks.now other ≡ true → IfSome end (λ end. meaning.refers_to registry.now end other ≡ true) → slice_index_or way.now other false ≡ true) }
+    ensures none { IfNone result ((other : ℕ) → meaning.is_new registry.now marks.now other ≡ true
+        → IfSome end (λ end. meaning.refers_to registry.now end other ≡ true) → slice_index_or way.now other false ≡ true) }
 {
     for other in 0..FIRST_MODULE + MOST_MODULES {
         if is_new(registry, marks, other)

@@ -10,4 +10,4 @@ pub returns-in-Ok : goal.returns-in-Ok
 returns-in-Ok c = done_calls _ _ _ _ _ c.written.ensures c.in-Ok.ensures.made
 
 pub asked-requires-clause-room : goal.asked-requires-clause-room
-asked-requires-clause-room c = roomless IsWrite (λ _ _ k. k) c.args.call.now c.requires.kind
+asked-requires-clause-room c = roomless IsWrite (λ _ _ k. cc) c.args.call.now c.requires.kind

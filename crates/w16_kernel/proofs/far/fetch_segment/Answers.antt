@@ -1,6 +1,5 @@
 -- What is fetched is a segment of the module that owns the object.
-use Rattle.w16_kernel.proofs.Modules.{seen}
-use Rattle.w16_kernel.proofs.Refetching.{fetched, within}
+use Rattle.w16_kernel.proofs.{Modules.seen, Refetching.fetched, Refetching.within}
 use Rattle.w16_kernel.proofs.far.fetch_segment.Goals as goal
 
 pub fetch-requires-clause-first : goal.fetch-requires-clause-first

@@ -10,7 +10,8 @@ returns-in-Ok-clause-found g c = found _ _ _ c.parts.view_is c.requires c.args.w
 
 pub returns-in-Err-fetch_absent-clause-found : goal.returns-in-Err-fetch_absent-clause-found
 returns-in-Err-fetch_absent-clause-found g c =
-    not_found _ _ _ c.parts.view_is c.requires c.args.write c.args.pointer c.args.count c.in-Err.fault c.in-Err.ensures.once _ c.selector_in.ensures _ c.in-Err.ensures.kept _ _ c.in-Err-fetch_absent.ensures.fetches
+    not_found _ _ _ c.parts.view_is c.requires c.args.write c.args.pointer c.args.count c.in-Err.fault c.in-Err.ensures.once _ c.selector_in.ensures
+    _ c.in-Err.ensures.kept _ _ c.in-Err-fetch_absent.ensures.fetches
 
 pub returns-in-Ok-again-clause-found : goal.returns-in-Ok-again-clause-found
 returns-in-Ok-again-clause-found g c =

@@ -1,5 +1,4 @@
-use Rattle.w16_kernel.proofs.Common.{refl}
-use Rattle.w16_kernel.proofs.Modules.{seen}
+use Rattle.w16_kernel.proofs.{Common.refl, Modules.seen}
 use Rattle.w16_kernel.proofs.load.free_module.Goals as goal
 
 pub returns-clause-frees : goal.returns-clause-frees

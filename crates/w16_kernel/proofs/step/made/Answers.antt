@@ -1,6 +1,4 @@
-use Rattle.w16_kernel.proofs.Common.{sym, subst, IsWorldOver}
-use Rattle.w16_kernel.proofs.Spared.{others_stay}
-use Rattle.w16_kernel.proofs.Stepping.{recounted, told_promises, told_step, told_world}
+use Rattle.w16_kernel.proofs.{Common.sym, Common.subst, Common.IsWorldOver, Spared.others_stay, Stepping.recounted, Stepping.told_promises, Stepping.told_step, Stepping.told_world}
 use Rattle.w16_kernel.proofs.step.made.Goals as goal
 
 pub sweep-requires : goal.sweep-requires

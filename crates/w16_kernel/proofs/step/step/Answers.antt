@@ -1,6 +1,4 @@
-use Rattle.w16_kernel.proofs.Common.{◌≤◌, length, length-take-le, subst, world_of}
-use Rattle.w16_kernel.proofs.Modules.{seen}
-use Rattle.w16_kernel.proofs.Stepping.{local_step, wanted_at}
+use Rattle.w16_kernel.proofs.{Common.◌≤◌, Common.length, Common.length-take-le, Common.subst, Common.world_of, Modules.seen, Stepping.local_step, Stepping.wanted_at}
 use Rattle.w16_kernel.specs.Runs.{HasRoom}
 use Rattle.w16_kernel.proofs.step.step.Goals as goal
 

@@ -1,5 +1,8 @@
 -- `none` makes the struct, which owns nothing.
 use Rattle.w16_c.proofs.Common.{[], ◌∷◌, lit<, refl, false, proved, empty_world}
+use Rattle.w16_c.proofs.{Words.word, Words.held_in, held.Held.none.Statement.statement}
+use Rattle.w16_c.specs.contracts.held.Held.none.{ended, clauses}
+use Rattle.w16_c.specs.contracts.held.Held.none.Key.{name as #self}
 use base.Logic.{SProp}
 use base.Fml.{ftrue}
 use mir.Val.{Val}
@@ -12,10 +15,6 @@ use denote.RawPtr.{null_ptr}
 use denote.Steps.{nothing}
 use denote.Triple.Entry.{alive}
 use denote.Triple.Walked.{walk_of, says, ends_at}
-use Rattle.w16_c.proofs.Words.{word, held_in}
-use Rattle.w16_c.specs.contracts.held.Held.none.{ended, clauses}
-use Rattle.w16_c.specs.contracts.held.Held.none.Key.{name as #self}
-use Rattle.w16_c.proofs.held.Held.none.Statement.{statement}
 use Rattle.w16_c.proofs.held.Held.none.Code as code
 
 pub none_spec : {M : Type 1} → statement M

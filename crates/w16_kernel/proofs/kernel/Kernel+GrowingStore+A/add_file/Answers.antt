@@ -1,6 +1,4 @@
-use Rattle.w16_kernel.proofs.Common.{world_of}
-use Rattle.w16_kernel.proofs.Files.{kept_grown}
-use Rattle.w16_kernel.proofs.Modules.{seen_world}
+use Rattle.w16_kernel.proofs.{Common.world_of, Files.kept_grown, Modules.seen_world}
 use Rattle.w16_kernel.proofs.kernel.Kernel+GrowingStore+A.add_file.Goals as goal
 
 pub invariant_of-self : goal.invariant_of-self

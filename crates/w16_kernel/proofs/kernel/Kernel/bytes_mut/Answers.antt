@@ -1,5 +1,4 @@
-use Rattle.w16_kernel.proofs.Common.{world_of, ◌∙◌}
-use Rattle.w16_kernel.proofs.Lent.{lent}
+use Rattle.w16_kernel.proofs.{Common.world_of, Common.◌∙◌, Lent.lent}
 use Rattle.w16_kernel.proofs.kernel.Kernel.bytes_mut.Goals as goal
 
 pub invariant_of-self-lent : goal.invariant_of-self-lent

@@ -1,6 +1,5 @@
 use Rattle.w16_kernel.proofs.Common.{◌≡◌, ℕ, MatchOption, None, Option, Some, World, owner_of, refl, sym, ◌∙◌}
-use Rattle.w16_kernel.specs.Facts.{facts_of, heap_in, source_in}
-use Rattle.w16_kernel.specs.declared.kernel.facts.Source.{Source}
+use Rattle.w16_kernel.specs.{Facts.facts_of, Facts.heap_in, Facts.source_in, declared.kernel.facts.Source.Source}
 use Rattle.w16_model.specs.{declared.Span.Span, Calls.global_flags, Handles.slot_of_handle}
 use Rattle.w16_kernel.proofs.kernel.Kernel.facts.Goals as goal
 

@@ -1,10 +1,10 @@
-use Rattle.w16_kernel.proofs.Common.{ap, refl}
-use Rattle.w16_kernel.proofs.Stepping.{answered}
-use Rattle.w16_model.specs.Calls as calls
+use Rattle.w16_kernel.proofs.{Common.ap, Common.refl, Stepping.answered}
 use Rattle.w16_model.specs.Calls.HandleCommand.{GlobalHandle}
 use Rattle.w16_kernel.specs.declared.call.Reply.TheVariants.{Dword}
+use Rattle.w16_model.specs.Calls as calls
 use Rattle.w16_kernel.proofs.kernel.Kernel.global_handle.Goals as goal
 
 pub returns : goal.returns
 returns g c = rw (← c.self.view_is, ← c.self-inside.view_is, ← c.self-inside-inside.view_is)
-    (answered _ _ (rw (← c.self-inside.view_is, ← c.self-inside-inside.view_is) at c.self.invariant) (GlobalHandle c.args.selector) (Dword c.global_handle.result) tt (ap calls.Answer.Dword c.global_handle.ensures, refl) refl)
+    (answered _ _ (rw (← c.self-inside.view_is, ← c.self-inside-inside.view_is) at c.self.invariant) (GlobalHandle c.args.selector)
+    (Dword c.global_handle.result) tt (ap calls.Answer.Dword c.global_handle.ensures, refl) refl)

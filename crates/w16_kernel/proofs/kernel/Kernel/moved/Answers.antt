@@ -1,8 +1,7 @@
-use Rattle.w16_kernel.proofs.Common.{ap, refl}
-use Rattle.w16_kernel.proofs.Stepping.{answered}
-use Rattle.w16_model.specs.Calls as calls
+use Rattle.w16_kernel.proofs.{Common.ap, Common.refl, Stepping.answered}
 use Rattle.w16_model.specs.Calls.HandleCommand.{Moved}
 use Rattle.w16_kernel.specs.declared.call.Reply.TheVariants.{Dword}
+use Rattle.w16_model.specs.Calls as calls
 use Rattle.w16_kernel.proofs.kernel.Kernel.moved.Goals as goal
 
 pub returns : goal.returns

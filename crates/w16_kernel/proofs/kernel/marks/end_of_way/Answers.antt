@@ -1,6 +1,4 @@
-use Rattle.std.proofs.Common.{◌∙◌, sym, false}
-use Rattle.std.proofs.lemmas.Bool.{false≢true}
-use Rattle.std.proofs.lemmas.List.{length-set, length-replicate}
+use Rattle.std.proofs.{Common.◌∙◌, Common.sym, Common.false, lemmas.Bool.false≢true, lemmas.List.length-set, lemmas.List.length-replicate}
 use Rattle.w16_kernel.proofs.Marks.{next_there, none_on}
 use Rattle.w16_kernel.proofs.kernel.marks.end_of_way.Goals as goal
 

@@ -1,9 +1,7 @@
-use Rattle.w16_kernel.proofs.Common.{not, true, ◌≡◌, ◌<◌, length}
+use Rattle.w16_kernel.proofs.{Common.not, Common.true, Common.◌≡◌, Common.◌<◌, Common.length, Marks.LeadThere}
 use Rattle.std.proofs.Common.{count_by}
 use Rattle.std.specs.Prelude.{IfSome}
-use Rattle.w16_kernel.specs.Marks.{is_new}
-use Rattle.w16_kernel.specs.declared.kernel.marks.TheConstants.{MODULE_HANDLES}
-use Rattle.w16_kernel.proofs.Marks.{LeadThere}
+use Rattle.w16_kernel.specs.{Marks.is_new, declared.kernel.marks.TheConstants.MODULE_HANDLES}
 use Rattle.w16_kernel.proofs.kernel.marks.end_of_way.Given as goal
 
 abbrev pub invariant-loop-next : goal.invariant-loop-next
