@@ -1,12 +1,12 @@
 -- A step's reply has the kind that its command's has.
-use Rattle.w16_c.proofs.Common.{◌≡◌, ℕ, ◌+◌, Bool, true, false, MatchBool, MatchOption, cond, nat_lt, List, [], length, Option, Some, None, unwrap_or, Result, Ok, Err, refl, sym, subst, Refusal, FarFault}
-use Rattle.w16_c.proofs.Common.{part, repeated, Heap, bytes_at, after_free, after_lock, after_unlock, after_newest, after_oldest, after_touch, Handles, slot_of_handle, selector_of, selector_in, offset_in, far_pointer, owns}
-use Rattle.w16_c.proofs.Common.{refuses_write, length-part, HandleCommand, Answer, HandleStep, global_lock, handle_or_0, GlobalAlloc, GlobalFree, GlobalLock, GlobalUnlock, GlobalSize}
-use Rattle.w16_c.proofs.Common.{GlobalFlags, GlobalHandle, GetSelectorBase, GetSelectorLimit, GlobalCompact, GlobalLRUNewest, GlobalLRUOldest, Moved, FarAnswer, Reached, reached, far_fault, far_slot, Read, Write, Fill}
+use Rattle.w16_c.proofs.Common.{◌≡◌, ℕ, Bool, true, false, MatchBool, MatchOption, cond, nat_lt, List, length, Option, Some, None, Result, Ok, Err, sym, subst, Refusal, FarFault}
+use Rattle.w16_c.proofs.Common.{repeated, Heap, bytes_at, after_free, after_lock, after_unlock, after_newest, after_oldest, Handles, slot_of_handle, selector_of, selector_in, offset_in, far_pointer, owns}
+use Rattle.w16_c.proofs.Common.{refuses_write, HandleCommand, Answer, HandleStep, global_lock, handle_or_0, GlobalAlloc, GlobalFree, GlobalLock, GlobalUnlock, GlobalSize}
+use Rattle.w16_c.proofs.Common.{GlobalFlags, GlobalHandle, GetSelectorBase, GetSelectorLimit, GlobalCompact, GlobalLRUNewest, GlobalLRUOldest, Moved, FarAnswer, far_fault, Read, Write, Fill}
 use Rattle.w16_c.proofs.Common.{FetchFault, Fetching, Accesses, gives, needs_fetch, reply_of_far, LoadingWorld, OfHandles, OfResizes, OfFar, ResizeCommand, GlobalReAlloc, GlobalDiscard, Reply, HandleReplies}
 use Rattle.w16_c.proofs.Common.{ResizeReplies, Word, Dword, Done, Failed, Walked, LocalCommand, LocalStep, DS, World, Command, OfLocals, KernelStep, ne_format, AnswersWord, AnswersDword, IsWrite, IsWord, IsDword, IsDoneOrFault}
-use Rattle.std.proofs.Common.{◌⊎◌, ◌∙◌, ap, inl, inr}
-use Rattle.w16_loading.specs.Replies.Reply.{Bytes, Fault}
+use Rattle.std.proofs.Common.{◌⊎◌, ap, inl, inr}
+use Rattle.w16_loading.specs.Replies.Reply.{Fault}
 use Rattle.w16_loading.specs.Families as families
 use Rattle.w16_loading.specs.Families.Command.{OfModules, OfResources}
 use Rattle.w16_loading.specs.Families.ModuleCommand.{Builtin, FreeLibrary, FreeModule, GetModuleHandle, GetModuleUsage, GetProcAddress, LoadLibrary, LoadModule}

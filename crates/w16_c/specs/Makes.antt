@@ -1,6 +1,6 @@
 -- What a call on a holder leaves, and the status that it answers.
 use Rattle.w16_c.specs
-use Rattle.std.specs.Prelude.{◌≡◌, ◌≢◌, ℕ, ◌⊎◌, Bool, true, false, List, [], ◌∷◌}
+use Rattle.std.specs.Prelude.{◌≡◌, ◌≢◌, ℕ, ◌⊎◌, Bool, true, false, [], ◌∷◌}
 use Rattle.w16_model.specs.{declared.FarFault.FarFault, Far.FarCommand.Read}
 use Rattle.w16_loading.specs.Replies.Reply.{Word, Dword, Bytes, Done, Fault, Failed}
 use Rattle.w16_loading.specs.{declared.FetchFault.FetchFault, Replies.Reply}
