@@ -56,18 +56,18 @@ impl<H: HoleList> Arena<H> {
             ≡ counted (counted (S.written space.old) p.moved) (if options.zero then size else 0)) }
     {
         reveal_bytes(space);
-        if let Some(placed) = self.place(space, id, size, kind, options) {
+        if let Some(placed) = self.alloc_now(space, id, size, kind, options) {
             self.forget_discards();
             return Ok(placed);
         }
         if !may_discard(options) {
             return Err(NoRoom);
         }
-        self.place_discarding(space, id, size, kind, options)
+        self.alloc_discarding(space, id, size, kind, options)
     }
 
-    /// The same, where there is no room without a discard and others may be discarded.
-    fn place_discarding<S: Space>(
+    /// Allocates the same where there is no room without a discard and others may be discarded.
+    fn alloc_discarding<S: Space>(
         &mut self,
         space: &mut S,
         id: u32,
@@ -98,7 +98,7 @@ impl<H: HoleList> Arena<H> {
             return Err(NoRoom);
         };
         self.discard_first(space, k, Some(id));
-        let Some(placed) = self.place(space, id, size, kind, options) else {
+        let Some(placed) = self.alloc_now(space, id, size, kind, options) else {
             unreachable!();
         };
         Ok(placed)

@@ -1,4 +1,4 @@
-//! Requests that discard nothing: a place for new bytes, and the blocks slid together.
+//! Requests that discard nothing: bytes for a new object, and the blocks slid together.
 ghost use Rattle.std.specs.Prelude.{◌≡◌, ◌<◌, ◌≤◌, ℕ, List, length, IfSome, IfNone, if◌then◌else◌, None};
 ghost use Rattle.w16_region.specs.Bytes.{counted};
 ghost use Rattle.w16_model.specs.Heap.{IsMultiple, is_discardable};
@@ -33,8 +33,8 @@ pub struct Compacted {
 }
 
 impl<H: HoleList> Arena<H> {
-    /// Bytes for an id that has none, without a discard.
-    pub(crate) fn place<S: Space>(
+    /// Allocates bytes for an id that has none, without a discard.
+    pub(crate) fn alloc_now<S: Space>(
         &mut self,
         space: &mut S,
         id: u32,

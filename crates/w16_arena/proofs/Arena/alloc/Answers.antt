@@ -21,10 +21,10 @@ returns-then-not-may_discard-clause-allocated g c =
     rw (r.1, r.2) (refused_kept c.args.self.now c.in_default.ensures.sound (g.S.Space.bytes _) c.requires.memory.inside _ _ _ _ c.requires.absent c.requires.some c.requires.rounded r.0 (sym c.may_discard.ensures ∙ c.if-not-may_discard.true))
 
 pub returns-clause-placed : goal.returns-clause-placed
-returns-clause-placed g c = let r = c.in_default.ensures.refused in rw (← r.1, ← r.2) c.place_discarding.ensures.placed
+returns-clause-placed g c = let r = c.in_default.ensures.refused in rw (← r.1, ← r.2) c.alloc_discarding.ensures.placed
 
 pub returns-clause-discarded : goal.returns-clause-discarded
-returns-clause-discarded g c = let r = c.in_default.ensures.refused in rw (← r.1, ← r.2) c.place_discarding.ensures.discarded
+returns-clause-discarded g c = let r = c.in_default.ensures.refused in rw (← r.1, ← r.2) c.alloc_discarding.ensures.discarded
 
 pub returns-in-Some-clause-fewest : goal.returns-in-Some-clause-fewest
 returns-in-Some-clause-fewest g c =
@@ -35,7 +35,7 @@ returns-then-not-may_discard-clause-fewest g c =
     allocation_law _ _ _ _ _ _ _ _ (sound_heap c.args.self.now.table c.in_default.ensures.sound (g.S.Space.bytes _) c.requires.memory.inside c.reveal_bytes.ensures) (returns-then-not-may_discard-clause-allocated g c)
 
 pub returns-clause-allocated : goal.returns-clause-allocated
-returns-clause-allocated g c = let r = c.in_default.ensures.refused in rw (← r.1, ← r.2) c.place_discarding.ensures.allocated
+returns-clause-allocated g c = let r = c.in_default.ensures.refused in rw (← r.1, ← r.2) c.alloc_discarding.ensures.allocated
 
 pub returns-clause-fewest : goal.returns-clause-fewest
 returns-clause-fewest g c =
@@ -47,28 +47,28 @@ returns-in-Some-clause-rest g c = rw c.forget_discards.ensures c.in-Some.ensures
 pub returns-then-not-may_discard-clause-rest : goal.returns-then-not-may_discard-clause-rest
 returns-then-not-may_discard-clause-rest g c = c.in_default.ensures.rest
 
-pub place_discarding-requires-clause-id : goal.place_discarding-requires-clause-id
-place_discarding-requires-clause-id g c = rw c.in_default.ensures.refused.1 c.requires.id
+pub alloc_discarding-requires-clause-id : goal.alloc_discarding-requires-clause-id
+alloc_discarding-requires-clause-id g c = rw c.in_default.ensures.refused.1 c.requires.id
 
-pub place_discarding-requires-clause-absent : goal.place_discarding-requires-clause-absent
-place_discarding-requires-clause-absent g c = rw c.in_default.ensures.refused.1 c.requires.absent
+pub alloc_discarding-requires-clause-absent : goal.alloc_discarding-requires-clause-absent
+alloc_discarding-requires-clause-absent g c = rw c.in_default.ensures.refused.1 c.requires.absent
 
-pub place_discarding-requires-clause-rounded : goal.place_discarding-requires-clause-rounded
-place_discarding-requires-clause-rounded g c = rw c.in_default.ensures.refused.1 c.requires.rounded
+pub alloc_discarding-requires-clause-rounded : goal.alloc_discarding-requires-clause-rounded
+alloc_discarding-requires-clause-rounded g c = rw c.in_default.ensures.refused.1 c.requires.rounded
 
-pub place_discarding-requires-clause-memory : goal.place_discarding-requires-clause-memory
-place_discarding-requires-clause-memory g c =
+pub alloc_discarding-requires-clause-memory : goal.alloc_discarding-requires-clause-memory
+alloc_discarding-requires-clause-memory g c =
     let r = c.in_default.ensures.refused in let m = g.S.Space.bytes c.args.space.now in
-    subst (λ m. HasRange g.H.Holes.are_in (holes_in c.place.new.self.table) c.place.new.self.table.hi m) (sym (ap g.S.Space.bytes r.2)) (subst (λ s. HasRange g.H.Holes.are_in (holes_in s.table) s.table.hi m) (sym r.1) c.requires.memory)
+    subst (λ m. HasRange g.H.Holes.are_in (holes_in c.alloc_now.new.self.table) c.alloc_now.new.self.table.hi m) (sym (ap g.S.Space.bytes r.2)) (subst (λ s. HasRange g.H.Holes.are_in (holes_in s.table) s.table.hi m) (sym r.1) c.requires.memory)
 
-pub place_discarding-requires-clause-may : goal.place_discarding-requires-clause-may
-place_discarding-requires-clause-may g c = sym c.may_discard.ensures ∙ c.if-not-may_discard.false
+pub alloc_discarding-requires-clause-may : goal.alloc_discarding-requires-clause-may
+alloc_discarding-requires-clause-may g c = sym c.may_discard.ensures ∙ c.if-not-may_discard.false
 
 pub returns-clause-refused : goal.returns-clause-refused
-returns-clause-refused g c = let r = c.in_default.ensures.refused in rw (← r.1, ← r.2) c.place_discarding.ensures.refused
+returns-clause-refused g c = let r = c.in_default.ensures.refused in rw (← r.1, ← r.2) c.alloc_discarding.ensures.refused
 
 pub returns-clause-rest : goal.returns-clause-rest
-returns-clause-rest g c = let r = c.in_default.ensures.refused in rw (← r.1, ← r.2) c.place_discarding.ensures.rest
+returns-clause-rest g c = let r = c.in_default.ensures.refused in rw (← r.1, ← r.2) c.alloc_discarding.ensures.rest
 
 pub returns-clause-written : goal.returns-clause-written
-returns-clause-written g c = rw (← c.in_default.ensures.refused.2) c.place_discarding.ensures.written
+returns-clause-written g c = rw (← c.in_default.ensures.refused.2) c.alloc_discarding.ensures.written

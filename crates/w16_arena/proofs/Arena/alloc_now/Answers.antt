@@ -3,7 +3,7 @@ use proofs.Common as C
 use proofs.Common.{ap, arith, ℕ, ◌∙◌, if◌then◌else◌, ◌≤◌}
 use proofs.Granting.{may_insert, kept_placed, rest_placed, stands_placed}
 use proofs.{Shown.known as known_in, Shown.told, Written.counted_if, Keeping.moved_kept, Keeping.none_changed}
-use Rattle.w16_arena.proofs.Arena.place.Goals as goal
+use Rattle.w16_arena.proofs.Arena.alloc_now.Goals as goal
 
 pub insert-requires-clause-fits : goal.insert-requires-clause-fits
 insert-requires-clause-fits g c =
