@@ -1,9 +1,10 @@
 -- Calls that read no bytes.
-use Rattle.w16_c.proofs.Common.{Command, OfFar, ℕ}
+use Rattle.std.specs.Prelude.{◌≡◌, ◌≢◌}
 use Rattle.w16_kernel.specs.{Runs.HasRoom, Runs.command_of, declared.call.Call.Call, declared.call.Call.TheVariants.Read}
-use Rattle.w16_model.specs.Far as far
+use Rattle.w16_machine.specs.Rows.{ReplyKind, reply_kind}
+use Rattle.w16_machine.specs.Rows.ReplyKind.{SomeBytes}
 
--- a kind of commands among which is no read
-pub roomless : (Is : Command → Type 0) → ((pointer count : ℕ) → Is (OfFar (far.FarCommand.Read pointer count)) → ⊥) → (call : Call) → Is (command_of call) → HasRoom call 0
-roomless Is none (Read pointer count) k = absurd (none pointer count k)
-roomless Is none call k = tt
+-- a call whose reply is of another kind than bytes
+pub roomless : (call : Call) (kind : ReplyKind) → reply_kind (command_of call) ≡ kind → SomeBytes ≢ kind → HasRoom call 0
+roomless (Read pointer count) kind is other = absurd (other is)
+roomless call kind is other = tt

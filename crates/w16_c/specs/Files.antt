@@ -1,7 +1,8 @@
 -- Module files that come from C, and what names things in them.
 use Rattle.std.specs.Prelude.{◌≡◌, ℕ, ◌⊎◌, true, MatchBool, nat_lt, List, [], ◌∷◌, ◌++◌, length, drop, Option, Some, None, IfSome}
 use Rattle.w16_store.specs.Files.{file_of}
-use Rattle.w16_loading.specs.{File.Label, File.Label.Number, File.Label.Text}
+use Rattle.w16_model.specs.Commands.{Label}
+use Rattle.w16_model.specs.Commands.Label.{Number, Text}
 use Rattle.w16_kernel.specs.declared.growing.AddFault.TheVariants.{Exists, Memory, Unnamed}
 use Rattle.w16_kernel.specs.declared.growing.RemoveFault.TheVariants as remove
 use Rattle.w16_kernel.specs.Growing.{AddsFile, IsNotAdded, IsNotRemoved, RemovesFile}

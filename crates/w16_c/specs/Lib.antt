@@ -1,7 +1,6 @@
 -- What the contracts cite.
 pub mod Ownership
 pub mod Makes
-pub mod Kinds
 pub mod Walks
 pub mod Files
 pub mod Listing

@@ -3,7 +3,8 @@ ghost use Rattle.std.specs.Prelude.{◌≡◌, IfOk, IfErr};
 ghost use Rattle.w16_loading.specs.Replies as replies;
 ghost use Rattle.w16_kernel.specs.Runs.{command_of, reply_of, HasRoom, IsCall};
 ghost use Rattle.w16_c.specs.Makes.{Makes, Refuses, WordCalls, DwordCalls, WordFetches, FarCalls, IsStatus, Tells};
-ghost use Rattle.w16_c.specs.Kinds.{AnswersWord, AnswersDword, FetchesWord, IsWrite, IsWord, IsDword, IsOrFailure, IsDoneOrFault};
+ghost use Rattle.w16_machine.specs.Rows.{IsOfKind, reply_kind};
+ghost use Rattle.w16_machine.specs.Rows.ReplyKind.{AWord, ADword, FetchedWord, OnlyDone};
 
 use crate::held::Held;
 use crate::life::{put_back, taken};
@@ -37,7 +38,7 @@ pub fn asked(alloc: Global, held: &mut Held, call: &Call<'_>) -> Result<Reply<'s
 
 /// The word of a reply that has one.
 fn word_in(reply: Reply<'_>) -> u16
-    requires { IsWord (reply_of reply) }
+    requires { IsOfKind AWord (reply_of reply) }
     ensures { reply_of reply.entry ≡ replies.Reply.Word result }
 {
     match reply {
@@ -48,7 +49,7 @@ fn word_in(reply: Reply<'_>) -> u16
 
 /// The double word of a reply that has one.
 fn dword_in(reply: Reply<'_>) -> u32
-    requires { IsDword (reply_of reply) }
+    requires { IsOfKind ADword (reply_of reply) }
     ensures { reply_of reply.entry ≡ replies.Reply.Dword result }
 {
     match reply {
@@ -60,7 +61,7 @@ fn dword_in(reply: Reply<'_>) -> u32
 /// A call that answers a word.
 pub fn word(alloc: Global, held: &mut Held, call: &Call<'_>, answer: &mut u16) -> u8
     requires call { IsCall call.now }
-    requires kind { AnswersWord (command_of call.now) }
+    requires kind { reply_kind (command_of call.now) ≡ AWord }
     ensures { WordCalls held.old (command_of call.now) result answer.old answer.new held.new }
 {
     match asked(alloc, held, call) {
@@ -76,7 +77,7 @@ pub fn word(alloc: Global, held: &mut Held, call: &Call<'_>, answer: &mut u16) -
 /// A call that answers a double word.
 pub fn dword(alloc: Global, held: &mut Held, call: &Call<'_>, answer: &mut u32) -> u8
     requires call { IsCall call.now }
-    requires kind { AnswersDword (command_of call.now) }
+    requires kind { reply_kind (command_of call.now) ≡ ADword }
     ensures { DwordCalls held.old (command_of call.now) result answer.old answer.new held.new }
 {
     match asked(alloc, held, call) {
@@ -91,7 +92,7 @@ pub fn dword(alloc: Global, held: &mut Held, call: &Call<'_>, answer: &mut u32) 
 
 /// The status of a reply that has a word, or says why a fetch failed. A word goes where the answer goes.
 fn word_told(reply: Reply<'_>, answer: &mut u16) -> u8
-    requires { IsOrFailure IsWord (reply_of reply) }
+    requires { IsOfKind FetchedWord (reply_of reply) }
     ensures { Tells replies.Reply.Word result (reply_of reply.entry) answer.old answer.new }
 {
     match reply {
@@ -107,7 +108,7 @@ fn word_told(reply: Reply<'_>, answer: &mut u16) -> u8
 /// A call that reads files, and answers a word where the reads don't fail.
 pub fn fetched_word(alloc: Global, held: &mut Held, call: &Call<'_>, answer: &mut u16) -> u8
     requires call { IsCall call.now }
-    requires kind { FetchesWord (command_of call.now) }
+    requires kind { reply_kind (command_of call.now) ≡ FetchedWord }
     ensures { WordFetches held.old (command_of call.now) result answer.old answer.new held.new }
 {
     match asked(alloc, held, call) {
@@ -119,7 +120,7 @@ pub fn fetched_word(alloc: Global, held: &mut Held, call: &Call<'_>, answer: &mu
 
 /// The status of a reply that says that something is done, or has a fault.
 pub fn written(reply: Reply<'_>) -> u8
-    requires { IsDoneOrFault (reply_of reply) }
+    requires { IsOfKind OnlyDone (reply_of reply) }
     ensures { IsStatus result (reply_of reply.entry) }
 {
     match reply {
@@ -132,7 +133,7 @@ pub fn written(reply: Reply<'_>) -> u8
 /// A call that is done, or answers a fault.
 pub fn done(alloc: Global, held: &mut Held, call: &Call<'_>) -> u8
     requires call { IsCall call.now }
-    requires kind { IsWrite (command_of call.now) }
+    requires kind { reply_kind (command_of call.now) ≡ OnlyDone }
     ensures { FarCalls held.old (command_of call.now) result replies.Reply.Done held.new }
 {
     match asked(alloc, held, call) {

@@ -1,11 +1,11 @@
 //! Bytes after far pointers, in buffers that the caller lends.
 ghost use Rattle.std.specs.Prelude.{◌<◌, ◌≤◌, length};
 ghost use Rattle.w16_loading.specs.Replies as replies;
-ghost use Rattle.w16_model.specs.Far as far;
-ghost use Rattle.w16_loading.specs.Families.Command.{OfFar};
+ghost use Rattle.w16_model.specs.Commands as commands;
 ghost use Rattle.w16_kernel.specs.Runs.{command_of};
 ghost use Rattle.w16_kernel.specs.declared.call.Call.TheVariants as calls;
 ghost use Rattle.w16_c.specs.Makes.{FarCalls, Stays, AsksTooMuch};
+ghost use Rattle.w16_loading.specs.Families.AnyCommand.{any};
 
 use crate::asked::{done, written};
 use crate::held::Held;
@@ -17,7 +17,7 @@ use w16_kernel::{Call, MOST_FILLED};
 /// `Read`: as many bytes as the buffer has. A fault leaves the buffer as it was.
 #[unsafe(no_mangle)]
 pub extern "C" fn w16_read(alloc: Global, held: &mut Held, pointer: u32, into: &mut [u8]) -> u8
-    ensures read { FarCalls held.old (OfFar (far.FarCommand.Read pointer (length into.old))) result (replies.Reply.Bytes into.new) held.new }
+    ensures read { FarCalls held.old (any _ (commands.Command.Read pointer (length into.old))) result (replies.Reply.Bytes into.new) held.new }
     ensures kept { Stays result into.old into.new }
 {
     let Some(mut kernel) = taken(held, alloc) else {
@@ -40,7 +40,7 @@ pub extern "C" fn w16_read(alloc: Global, held: &mut Held, pointer: u32, into: &
 /// `Write`: the bytes of a buffer, as many as it has.
 #[unsafe(no_mangle)]
 pub extern "C" fn w16_write(alloc: Global, held: &mut Held, pointer: u32, bytes: &[u8]) -> u8
-    ensures { FarCalls held.old (OfFar (far.FarCommand.Write pointer bytes.now)) result replies.Reply.Done held.new }
+    ensures { FarCalls held.old (any _ (commands.Command.Write pointer bytes.now)) result replies.Reply.Done held.new }
 {
     done(alloc, held, &Call::Write { pointer, bytes })
 }

@@ -1,11 +1,11 @@
 //! Calls on modules. A file, a module or an entry is named by a text, as many bytes as it has.
 ghost use Rattle.std.specs.Prelude.{◌≡◌};
-ghost use Rattle.w16_loading.specs.Families.Command.{OfModules};
-ghost use Rattle.w16_loading.specs.Families.ModuleCommand.{Builtin, LoadModule, LoadLibrary, GetModuleHandle, GetProcAddress};
+ghost use Rattle.w16_model.specs.Commands.Command.{Builtin, LoadModule, LoadLibrary, GetModuleHandle, GetProcAddress};
 ghost use Rattle.w16_kernel.specs.Runs.{command_of, label_of};
 ghost use Rattle.w16_kernel.specs.declared.call.Call.TheVariants as calls;
 ghost use Rattle.w16_c.specs.Files.{label_in};
 ghost use Rattle.w16_c.specs.Makes.{WordCalls, DwordCalls, WordFetches};
+ghost use Rattle.w16_loading.specs.Families.AnyCommand.{any};
 
 use crate::asked::{dword, fetched_word, word};
 use crate::held::Held;
@@ -26,7 +26,7 @@ pub fn label(text: &[u8], number: u16) -> Label<'_>
 /// `Builtin`: a module of a name without a file, and its handle; 0 where a file's module has the name, or no handle is left. It takes memory.
 #[unsafe(no_mangle)]
 pub extern "C" fn w16_builtin(alloc: Global, held: &mut Held, name: &[u8], handle: &mut u16) -> u8
-    ensures { WordCalls held.old (OfModules (Builtin name.now)) result handle.old handle.new held.new }
+    ensures { WordCalls held.old (any _ (Builtin name.now)) result handle.old handle.new held.new }
 {
     word(alloc, held, &Call::Builtin { name }, handle)
 }
@@ -40,7 +40,7 @@ pub extern "C" fn w16_load_module(
     file: &[u8],
     handle: &mut u16,
 ) -> u8
-    ensures { WordFetches held.old (OfModules (LoadModule file.now)) result handle.old handle.new held.new }
+    ensures { WordFetches held.old (any _ (LoadModule file.now)) result handle.old handle.new held.new }
 {
     fetched_word(alloc, held, &Call::LoadModule { file }, handle)
 }
@@ -53,7 +53,7 @@ pub extern "C" fn w16_load_library(
     file: &[u8],
     handle: &mut u16,
 ) -> u8
-    ensures { WordFetches held.old (OfModules (LoadLibrary file.now)) result handle.old handle.new held.new }
+    ensures { WordFetches held.old (any _ (LoadLibrary file.now)) result handle.old handle.new held.new }
 {
     fetched_word(alloc, held, &Call::LoadLibrary { file }, handle)
 }
@@ -87,7 +87,7 @@ pub extern "C" fn w16_get_module_handle(
     name: &[u8],
     handle: &mut u16,
 ) -> u8
-    ensures { WordCalls held.old (OfModules (GetModuleHandle name.now)) result handle.old handle.new held.new }
+    ensures { WordCalls held.old (any _ (GetModuleHandle name.now)) result handle.old handle.new held.new }
 {
     word(alloc, held, &Call::GetModuleHandle { name }, handle)
 }
@@ -115,7 +115,7 @@ pub extern "C" fn w16_get_proc_address(
     ordinal: u16,
     pointer: &mut u32,
 ) -> u8
-    ensures { DwordCalls held.old (OfModules (GetProcAddress handle (label_in name.now ordinal))) result pointer.old pointer.new held.new }
+    ensures { DwordCalls held.old (any _ (GetProcAddress handle (label_in name.now ordinal))) result pointer.old pointer.new held.new }
 {
     dword(
         alloc,

@@ -1,12 +1,13 @@
 //! Calls on resources.
 ghost use Rattle.w16_loading.specs.Replies as replies;
-ghost use Rattle.w16_loading.specs.Families.Command.{OfResources};
-ghost use Rattle.w16_loading.specs.Families.ResourceCommand.{FindResource};
+ghost use Rattle.w16_model.specs.Commands.Command.{FindResource};
+ghost use Rattle.w16_machine.specs.Rows.{IsOfKind};
+ghost use Rattle.w16_machine.specs.Rows.ReplyKind.{FetchedDword};
 ghost use Rattle.w16_kernel.specs.Runs.{command_of, reply_of};
 ghost use Rattle.w16_kernel.specs.declared.call.Call.TheVariants as calls;
 ghost use Rattle.w16_c.specs.Files.{label_in};
-ghost use Rattle.w16_c.specs.Kinds.{IsDword, IsOrFailure};
 ghost use Rattle.w16_c.specs.Makes.{WordCalls, DwordCalls, WordFetches, DwordFetches, Tells};
+ghost use Rattle.w16_loading.specs.Families.AnyCommand.{any};
 
 use crate::asked::{Refusal, asked, dword, fetched_word, word};
 use crate::held::Held;
@@ -28,7 +29,7 @@ pub extern "C" fn w16_find_resource(
     kind_number: u16,
     place: &mut u16,
 ) -> u8
-    ensures { WordCalls held.old (OfResources (FindResource handle (label_in name.now name_number) (label_in kind.now kind_number))) result place.old place.new held.new }
+    ensures { WordCalls held.old (any _ (FindResource handle (label_in name.now name_number) (label_in kind.now kind_number))) result place.old place.new held.new }
 {
     word(
         alloc,
@@ -58,7 +59,7 @@ pub extern "C" fn w16_load_resource(
 
 /// The status of a reply that has a double word, or says why a fetch failed. A double word goes where the answer goes.
 fn dword_told(reply: Reply<'_>, answer: &mut u32) -> u8
-    requires { IsOrFailure IsDword (reply_of reply) }
+    requires { IsOfKind FetchedDword (reply_of reply) }
     ensures { Tells replies.Reply.Dword result (reply_of reply.entry) answer.old answer.new }
 {
     match reply {

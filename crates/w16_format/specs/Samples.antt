@@ -1,7 +1,8 @@
 -- Three files, and what each says: worked out by hand.
 use Rattle.std.specs.Prelude.{◌≡◌, ℕ, List, [], ◌∷◌, ◌++◌, map, true, false, Option, Some, None, Ok, Err, codes}
 use Rattle.w16_model.specs.{declared.Kind.TheVariants.Discardable, Bytes.repeated}
-use Rattle.w16_loading.specs.{File.ModuleFile, File.SegmentData, File.Far, File.Entry, File.Target, File.Label, Closure.are_sound}
+use Rattle.w16_loading.specs.{File.ModuleFile, File.SegmentData, File.Far, File.Entry, File.Target, Closure.are_sound}
+use Rattle.w16_model.specs.Commands.{Label}
 use Rattle.w16_format.specs.Ne.{ne_format}
 
 -- two code segments, of which the first has a chain of pointers and a sum

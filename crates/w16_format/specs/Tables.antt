@@ -4,7 +4,9 @@ use Rattle.w16_model.specs.declared.Kind.{Kind}
 use Rattle.w16_model.specs.declared.Kind.TheVariants.{Fixed, Moveable, Discardable}
 use Rattle.w16_ne.specs.{Header.is_library, Modules.listed_resources}
 use Rattle.w16_format.specs.Layout.{layout_of}
-use Rattle.w16_loading.specs.{File.Segment, File.Entry, File.Label, File.Resource, File.Tables, File.Entry.InSegment, File.Entry.Constant, File.Label.Number, File.Label.Text}
+use Rattle.w16_loading.specs.{File.Segment, File.Entry, File.Resource, File.Tables, File.Entry.InSegment, File.Entry.Constant}
+use Rattle.w16_model.specs.Commands.{Label}
+use Rattle.w16_model.specs.Commands.Label.{Number, Text}
 use Rattle.w16_ne.specs.declared.segment_table.Segment as ne_segment
 use Rattle.w16_ne.specs.declared.entry_table.Entry as ne_entry
 use Rattle.w16_ne.specs.declared.entry_table.Entry.TheVariants as ne_entries

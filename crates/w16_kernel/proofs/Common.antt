@@ -23,9 +23,12 @@ pub use Rattle.w16_loading.specs.Answers.{FetchesFrom, LoadsFrom, StepOver, told
 pub use Rattle.w16_loading.specs.Fill.{Fills}
 pub use Rattle.w16_store.specs.Later.{IsLater}
 pub use Rattle.w16_loading.specs.Families.{FamilyStep}
+pub use Rattle.w16_model.specs.Commands.{Command}
+pub use Rattle.w16_model.specs.Commands.Family.{OfFar}
+pub use Rattle.w16_model.specs.Commands.Command.{GlobalFree, GlobalCompact, Moved, GlobalReAlloc, GlobalDiscard}
 pub use Rattle.w16_loading.specs.Owner.{owner_of}
 pub use Rattle.w16_local.proofs.Beginning.{on_any}
-pub use Rattle.w16_machine.proofs.Common.{AreHandles, Bool, Command, Discardable, Dword, Event, Failed, FarAnswer, FarCommand, FarFault, FarReplies, FetchFault, Fill, FinMap, Fixed}
+pub use Rattle.w16_machine.proofs.Common.{AreHandles, Bool, Command, Discardable, Dword, Event, Failed, FarAnswer, FarFault, FarReplies, FetchFault, Fill, FinMap, Fixed}
 pub use Rattle.w16_machine.proofs.Common.{Handles, Heap, IfSome, IsCommand, IsLoadingWorld, IsLocalIn, IsOfLocals, IsSomeAnd, Kind, List, LoadingStep, LoadingWorld, Moveable, Object}
 pub use Rattle.w16_machine.proofs.Common.{OfFar, OfHandles, OfLocals, OfModules, OfResizes, OfResources, Read, Reply, Run, Step, Table, Word, World, Write, [], after_loading, answer_in, ap}
 pub use Rattle.w16_machine.proofs.Common.{arith, bytes_at, bytes_in, cond, data_write, false, false≢true, far_fault, far_slot, get-retain_keys, get_or, gives}
@@ -39,7 +42,7 @@ pub use Rattle.w16_machine.proofs.Runs.{run_append}
 pub use Rattle.w16_machine.proofs.LocalStays.{heaps_law}
 pub use Rattle.w16_machine.proofs.Stepped.{handles_step}
 pub use Rattle.w16_machine.proofs.Worlds.{files_law, world_law}
-pub use Rattle.w16_machine.specs.Columns.{may_take_bytes}
+pub use Rattle.w16_machine.specs.Rows.{may_take_bytes}
 pub use Rattle.w16_machine.specs.LocalStays.{step_may_take}
 pub use Rattle.w16_machine.specs.Machine.{Steps}
 pub use Rattle.w16_machine.specs.Law.{IsSame}
@@ -50,7 +53,6 @@ pub use Rattle.w16_model.specs.Law.{HasOneWalk}
 pub use Rattle.w16_model.proofs.Naming.{names_law}
 pub use Rattle.w16_model.proofs.Runs.{numbered, reach_law, slots_none}
 pub use Rattle.w16_model.specs.Calls.{alloc_options, global_handle, kind_asked}
-pub use Rattle.w16_model.specs.Calls.HandleCommand.{GlobalCompact, GlobalFree, Moved}
 pub use Rattle.w16_model.specs.Handles.{Part, dword_of, slots_at, selector_of, slot_of_handle}
 pub use Rattle.w16_model.specs.Owned.{is_owned}
 pub use Rattle.std.proofs.lemmas.Bool.{cases_eq, le-leb}
@@ -61,7 +63,6 @@ pub use Rattle.w16_model.specs.Outcomes.{CallStep, Outcome}
 pub use Rattle.w16_model.specs.Outcomes.Outcome.{IsAllocated, IsCompacted, IsDiscarded, IsEntered, IsFreed, IsLocked, IsModified, IsNewest, IsOldest, IsResized, IsUnlocked, IsUnmoved}
 pub use Rattle.w16_model.specs.CallLaws.{IsKeptOrDiscarded, OnlyLeave, handle_in, may_change}
 pub use Rattle.w16_model.proofs.CallOutcomes.{outcome}
-pub use Rattle.w16_loading.specs.Resizes.ResizeCommand.{GlobalDiscard, GlobalReAlloc}
 pub use Rattle.w16_model.specs.Outcomes.Call.{Calls, ReAllocs}
 pub use Rattle.w16_model.specs.declared.TheConstants.{GMEM_MOVEABLE}
 pub use Rattle.w16_model.specs.declared.Attributes.{Attributes}

@@ -5,9 +5,10 @@ use Rattle.w16_model.specs.{Calls.global_handle, Calls.selector_base, Calls.sele
 use Rattle.w16_model.specs.{Handles.part_of_selector, Handles.reached, Heap.Object, Heap.bytes_at, Heap.object_at, Owned.is_code}
 use Rattle.w16_global.specs.{declared.peek.Descriptor.Descriptor, Peek.selector_descriptor}
 use Rattle.w16_machine.specs.LocalStays.{HasSamePlaces}
-use Rattle.w16_loading.specs.Families.Command.{OfLocals}
+use Rattle.w16_model.specs.Commands.Family.{OfLocals}
 use Rattle.w16_machine.proofs.LocalStays.{local_places_law, places_law}
 use Rattle.w16_kernel.specs.Descriptors.{DescriptorsLaw}
+use Rattle.w16_loading.specs.Families.AnyCommand.{any}
 
 -- what is told of a fact of something that may be absent
 through : {X Y Z : Type 0} (fact : X → Y) (tell : Y → Z) (p q : Option X) → option_map fact p ≡ option_map fact q → option_map (λ x. tell (fact x)) p ≡ option_map (λ x. tell (fact x)) q
@@ -67,6 +68,6 @@ module _ (old new : Handles) (same : HasSamePlaces old new) (selector : ℕ) whe
   descriptor_same = ap (option_map (told new)) parts ∙ tells (part_of_selector old selector)
 
 pub descriptors_law : (honest : Type 0) → DescriptorsLaw honest
-descriptors_law honest old new (OfLocals command) reply is none step = descriptor_same old.loading.handles new.loading.handles (local_places_law old new command reply is none step.step)
+descriptors_law honest old new (any OfLocals command) reply is none step = descriptor_same old.loading.handles new.loading.handles (local_places_law old new command reply is none step.step)
 descriptors_law honest old new command reply is none step = descriptor_same old.loading.handles new.loading.handles
     (places_law honest ne_format old.loading new.loading command reply none step.step.0)

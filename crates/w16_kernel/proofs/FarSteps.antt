@@ -1,7 +1,9 @@
 -- Far accesses over a store, with what they fetch.
 use Rattle.w16_kernel.proofs
 use proofs.Common as C
-use proofs.Common.{Err, None, Some, Ok, ne_format, Refetches, IsWorldOver, reply_of, Bool, Dword, FarAnswer, FarCommand, FarFault, FarReplies, Fill, Handles, LoadingWorld}
+use proofs.Common.{Err, None, Some, Ok, ne_format, Refetches, IsWorldOver, reply_of, Bool, Dword, FarAnswer, FarFault, FarReplies, Fill, Handles, LoadingWorld}
+use Rattle.w16_model.specs.Commands.{Command}
+use Rattle.w16_model.specs.Commands.Family.{OfFar}
 use proofs.Common.{OfFar, Read, Step, Table, World, Write, ap, false, false≢true, far_slot, gives, inl, inr, left_in, needs_fetch, refl}
 use proofs.Common.{reply_of_far, selector_in, subst, sym, true, with_handles, ℕ, ◌∙◌, ◌≡◌, Moved}
 use proofs.Stepping.{stay}
@@ -9,9 +11,10 @@ use Rattle.w16_loading.specs.{Law.FetchesOver, Families.access_of, Replies.Reply
 use Rattle.w16_model.specs.Far.{pointer_in}
 use Rattle.w16_kernel.specs.{declared.call.Reply.Reply}
 use Rattle.w16_loading.specs.Replies as printed
+use Rattle.w16_loading.specs.Families.AnyCommand.{any}
 
 -- what a reply prints, of an access to handles in whatever world has them
-given : (old : LoadingWorld) (next : Handles) (command : FarCommand) (reply : printed.Reply) → FarReplies old.handles command reply next → gives (access_of command old) reply (with_handles old next)
+given : (old : LoadingWorld) (next : Handles) (command : Command OfFar) (reply : printed.Reply) → FarReplies old.handles command reply next → gives (access_of command old) reply (with_handles old next)
 given old next (Read pointer count) (Bytes bytes) s = (ap reply_of_far s.0, ap (with_handles old) s.1)
 given old next (Read pointer count) Done s = (ap reply_of_far s.0, ap (with_handles old) s.1)
 given old next (Read pointer count) (Fault fault) s = (ap reply_of_far s.0, ap (with_handles old) s.1)
@@ -23,25 +26,25 @@ given old next (Fill pointer count byte) Done s = (ap reply_of_far s.0, ap (with
 given old next (Fill pointer count byte) (Fault fault) s = (ap reply_of_far s.0, ap (with_handles old) s.1)
 given old next command reply s = absurd s
 
-abbrev pub Makes : Type 0 → World → FarCommand → printed.Reply → World → Type 0
-Makes honest old command reply new = Step honest ne_format old (OfFar command) reply new
+abbrev pub Makes : Type 0 → World → Command OfFar → printed.Reply → World → Type 0
+Makes honest old command reply new = Step honest ne_format old (any OfFar command) reply new
 
 -- the selector of an access, whether the access has to fetch, and what
-abbrev selector_of : FarCommand → ℕ
+abbrev selector_of : Command OfFar → ℕ
 selector_of command = selector_in (pointer_in command)
 
-abbrev needs : FarCommand → LoadingWorld → Bool
+abbrev needs : Command OfFar → LoadingWorld → Bool
 needs command old = needs_fetch (access_of command old).0 old (selector_of command)
 
-abbrev slot_of : FarCommand → LoadingWorld → ℕ
+abbrev slot_of : Command OfFar → LoadingWorld → ℕ
 slot_of command old = far_slot old.handles (selector_of command)
 
-module _ (honest : Type 0) (old : World) (is : IsWorldOver honest old) (command : FarCommand) (reply : printed.Reply) where
+module _ (honest : Type 0) (old : World) (is : IsWorldOver honest old) (command : Command OfFar) (reply : printed.Reply) where
   -- what fetches nothing
   made_once : (next : Handles) → needs command old.loading ≡ false → FarReplies old.loading.handles command reply next
       → Makes honest old command reply (record old { loading = with_handles old.loading next })
   made_once next none s =
-      let step = C.handles_step honest ne_format old.loading next (OfFar command) reply none s in
+      let step = C.handles_step honest ne_format old.loading next (any OfFar command) reply none s in
       (step, (λ i. record { loading = with_handles old.loading next; heaps = sym (stay honest old is _ _ _ none step) i; ds = old.ds }))
 
   -- one that has to fetch
@@ -72,10 +75,10 @@ module _ (honest : Type 0) (old : World) (is : IsWorldOver honest old) (command 
   )
     where
       still : left_in old.loading.handles.heap old.heaps ≡ old.heaps
-      still = stay honest old is _ _ _ refl (C.handles_step honest ne_format old.loading old.loading.handles (C.OfHandles Moved) (Dword old.loading.handles.moved) tt (refl, refl))
+      still = stay honest old is _ _ _ refl (C.handles_step honest ne_format old.loading old.loading.handles (any _ Moved) (Dword old.loading.handles.moved) tt (refl, refl))
 
 -- An access that met a fault, or none.
-met_fault : (old : LoadingWorld) (next : Handles) (command : FarCommand) (fault : FarFault) → FarReplies old.handles command (Fault fault) next → FarAnswer.Fault fault ≡ (access_of command old).0
+met_fault : (old : LoadingWorld) (next : Handles) (command : Command OfFar) (fault : FarFault) → FarReplies old.handles command (Fault fault) next → FarAnswer.Fault fault ≡ (access_of command old).0
 met_fault old next (Read pointer count) fault s = s.0
 met_fault old next (Write pointer bytes) fault s = s.0
 met_fault old next (Fill pointer count byte) fault s = s.0
@@ -90,7 +93,7 @@ needs_nothing old selector reply FarAnswer.Done e none = refl
 needs_nothing old selector reply (FarAnswer.Fault fault) e none = absurd (false≢true (sym none ∙ ap is_fault e))
 
 -- The steps as the code makes them, of parts that it opened: an access answers at once, or it left all as it was, and was ended or made again.
-module _ (honest : Type 0) (opened old : World) (same : opened ≡ old) (given_is : IsWorldOver honest old) (command : FarCommand) where
+module _ (honest : Type 0) (opened old : World) (same : opened ≡ old) (given_is : IsWorldOver honest old) (command : Command OfFar) where
   is : IsWorldOver honest opened
   is = rw same given_is
 

@@ -3,7 +3,9 @@ use Rattle.w16_kernel.specs
 use Rattle.w16_kernel.proofs
 use proofs.Common as C
 use proofs.Common.{◌≡◌, ℕ, Bool, true, false, false≢true, ◌<◌, List, [], length, Option, Some, None, Ok, Err, if◌then◌else◌, ◌&&◌, refl, sym}
-use proofs.Common.{ap, ◌∙◌, subst, arith, option_map, World, LoadingWorld, IsWorldOver, FarAnswer, FarFault, FarCommand, Read, Write, OfFar, KernelStep, FarReplies, Handles, Heap, Table}
+use proofs.Common.{ap, ◌∙◌, subst, arith, option_map, World, LoadingWorld, IsWorldOver, FarAnswer, FarFault, Read, Write, OfFar, KernelStep, FarReplies, Handles, Heap, Table}
+use Rattle.w16_model.specs.Commands.{Command}
+use Rattle.w16_model.specs.Commands.Family.{OfFar}
 use proofs.Common.{Refetches, with_handles, left_in, selector_in, offset_in, far_fault, world_of, bytes_at, nat_le}
 use proofs.{Absent.by_fault, FarSteps.Makes, FarSteps.answered, FarSteps.ended_by, FarSteps.remade_by, Stepping.asks, Stepping.kept, Stepping.reads_code}
 use Rattle.w16_model.specs.declared.FarFault.TheVariants.{BadSelector, ReadOnly, NotPresent, Limit}
@@ -19,6 +21,7 @@ use Rattle.std.specs.Prelude.{All}
 use Rattle.std.specs.FinMap as finmap
 use Rattle.w16_kernel.specs.declared.call.Reply.TheVariants as replies
 use Rattle.w16_kernel.specs.declared.far.Written.TheVariants as writes
+use Rattle.w16_loading.specs.Families.AnyCommand.{any}
 
 -- An access that met a fault.
 module _ (old : Handles) (pointer count : ℕ) {fault : FarFault} where
@@ -71,17 +74,17 @@ same_tables before after tables same = λ i. finmap.retain_keys tables (λ q. ra
     ranges (Some t) q = by_size t.hi (bytes_at after q) ∙ ap (in_range t.hi) (same q) ∙ sym (by_size t.hi (bytes_at before q))
 
 module _ {honest : Type 0} {old : World} (is : IsWorldOver honest old) where
-  told : {command : FarCommand} {reply : Printed} {new : World} → Makes honest old command reply new → KernelStep honest old (OfFar command) reply new
+  told : {command : Command OfFar} {reply : Printed} {new : World} → Makes honest old command reply new → KernelStep honest old (any OfFar command) reply new
   told s = record { step = s; code = reads_code honest old is _ _ _ s; requests = asks honest old is _ _ _ s }
 
-  left : {pointer count : ℕ} {reply : Printed} {new : World} → KernelStep honest old (OfFar (Read pointer count)) reply new → IsWorldOver honest new
-  left {pointer} {count} {reply} {new} s = kept honest old is (OfFar (Read pointer count)) reply new tt s.step
+  left : {pointer count : ℕ} {reply : Printed} {new : World} → KernelStep honest old (any _ (Read pointer count)) reply new → IsWorldOver honest new
+  left {pointer} {count} {reply} {new} s = kept honest old is (any _ (Read pointer count)) reply new tt s.step
 
   -- an access leaves a world
   pub left_by : (write : Bool) (pointer count : ℕ) (result : C.Result Place Reply) {new : World} → FindsPlace honest old write pointer count result new → IsWorldOver honest new
   left_by write pointer count (Ok place) s = left s.0
   left_by false pointer count (Err reply) s = left s
-  left_by true pointer count (Err reply) {new} s = kept honest old is (OfFar (Write pointer (C.repeated count 0)))
+  left_by true pointer count (Err reply) {new} s = kept honest old is (any _ (Write pointer (C.repeated count 0)))
       (C.reply_of reply) new (All-repeated count 0 (omega arith)) (s (C.repeated count 0) (length-repeated count 0)).step
 
 -- and so does a loan, since it is a write
@@ -90,7 +93,7 @@ pub lent : {honest : Type 0} {before opened now : World} {pointer : ℕ} → ope
 lent {honest} {before} {now = now} {pointer = pointer} same place there t new =
     let bytes : List ℕ = left_of (lent_bytes now.loading.handles place) new in
     subst (λ w. IsWorldOver honest (after_lending place w new)) (sym same)
-    (kept honest before t.sound (OfFar (Write pointer bytes)) Done (with_left now place bytes) (All-left_of (lent_bytes now.loading.handles place) new)
+    (kept honest before t.sound (any _ (Write pointer bytes)) Done (with_left now place bytes) (All-left_of (lent_bytes now.loading.handles place) new)
     (t.writes bytes (left_length now.loading.handles.heap place.slot place.at place.count there new)).step)
 
 -- What is left of bytes that are written over a place.
@@ -135,9 +138,9 @@ module _ (honest : Type 0) (opened old : World) (same : opened ≡ old) (is : Is
       f = rw kept at given
 
       -- made again, as the access that met the fault or as another that meets it
-      remade : (command : FarCommand) → FarReplies opened.loading.handles command (Fault fault) opened.loading.handles → selector ≡ selector_in (pointer_in command)
+      remade : (command : Command OfFar) → FarReplies opened.loading.handles command (Fault fault) opened.loading.handles → selector ≡ selector_in (pointer_in command)
           → (reply : Printed) (new : LoadingWorld) → new ≡ with_handles again new.handles → FarReplies again.handles command reply new.handles
-          → KernelStep honest old (OfFar command) reply (world_of new (left_in new.handles.heap opened.heaps) opened.ds)
+          → KernelStep honest old (any OfFar command) reply (world_of new (left_in new.handles.heap opened.heaps) opened.ds)
       remade command met named reply new rest s = told is (remade_by honest opened old same is command opened.loading refl fault met selector named again f reply new rest s)
 
       pub found_again : (place : Place) (new : LoadingWorld) → new ≡ with_handles again new.handles → FindsPlaceOnce again.handles write pointer count (Ok place) new.handles
@@ -152,7 +155,7 @@ module _ (honest : Type 0) (opened old : World) (same : opened ≡ old) (is : Is
               let written = s.2 e bytes (long ∙ s.0.1) in
               let sizes = far_reply again.handles after.handles (Write pointer bytes) (Some FarAnswer.Done) written in
               let read_sizes = far_reply again.handles new.handles (Read pointer count) (Some _) s.1 in
-              subst (λ heaps. KernelStep honest old (OfFar (Write pointer bytes)) Done (world_of after heaps opened.ds))
+              subst (λ heaps. KernelStep honest old (any _ (Write pointer bytes)) Done (world_of after heaps opened.ds))
               (same_tables new.handles.heap after.handles.heap opened.heaps (λ q. sizes.sizes q ∙ sym (read_sizes.sizes q)))
               (remade (Write pointer bytes) (subst (λ w. OfEach w pointer count (λ command. FarReplies opened.loading.handles command (Fault fault) opened.loading.handles)) e
               (met opened.loading.handles pointer count write m) bytes (long ∙ s.0.1)) named Done after

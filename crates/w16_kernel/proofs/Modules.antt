@@ -7,9 +7,11 @@ use Rattle.w16_loading.proofs.Requests.{load_fills}
 pub use Rattle.w16_resource.proofs.Steps.{seen}
 use Rattle.w16_loading.specs.Families as families
 use Rattle.w16_loading.specs.Replies as printed
+use Rattle.w16_loading.specs.Families.{AnyCommand}
+use Rattle.w16_loading.specs.Families.AnyCommand.{any}
 
 -- a step that reads no file
-pub unread : (honest : Type 0) (old new : LoadingWorld) (command : C.Command) (reply : printed.Reply) → new.files ≡ old.files → new.failures ≡ old.failures
+pub unread : (honest : Type 0) (old new : LoadingWorld) (command : AnyCommand) (reply : printed.Reply) → new.files ≡ old.files → new.failures ≡ old.failures
     → C.FamilyStep (fetching honest ne_format old new) (loading honest ne_format old new) old command reply (record new { failures = old.failures }) → C.StepOver honest ne_format old command reply new
 unread honest old new command reply files same s = record { counted = omega (arith, same); files = files; step = s }
 
@@ -18,7 +20,7 @@ module _ {honest : Type 0} {old : LoadingWorld} {next : C.Handles} {loaded : C.M
   pub load_told : (is_load_module : Bool) {file : List ℕ} {answer : Answer} {reply : printed.Reply} → reply ≡ families.reply_of answer → C.IsLater old.files old.failures left count
       → ((rest : LoadingWorld) → LoadsFrom FillsFewest (told honest ne_format old.files old.failures count) is_load_module
       (record old { loads = rest.loads }) file answer (record old { handles = next; modules = loaded; loads = rest.loads }))
-      → C.StepOver honest ne_format old (C.OfModules (load_command is_load_module file)) reply (record old { handles = next; modules = loaded; files = left; failures = count })
+      → C.StepOver honest ne_format old (any C.OfModules (load_command is_load_module file)) reply (record old { handles = next; modules = loaded; files = left; failures = count })
   load_told is_load_module {file = file} {answer = answer} {reply = reply} e later over = record {
     counted = later.counted;
     files = later.same;
@@ -31,7 +33,7 @@ module _ {honest : Type 0} {old : LoadingWorld} {next : C.Handles} {loaded : C.M
       answers = told honest ne_format old.files old.failures count
 
       turn : (b : Bool) → LoadsFrom Fills answers b old file answer (record old { handles = next; modules = loaded; files = left })
-          → C.FamilyStep (C.FetchesFrom Fills answers) (LoadsFrom Fills answers) old (C.OfModules (load_command b file)) reply (record old { handles = next; modules = loaded; files = left })
+          → C.FamilyStep (C.FetchesFrom Fills answers) (LoadsFrom Fills answers) old (any C.OfModules (load_command b file)) reply (record old { handles = next; modules = loaded; files = left })
       turn true f = (answer, e, f)
       turn false f = (answer, e, f)
 

@@ -8,10 +8,15 @@ use proofs.Common.{Calls, ReAllocs, Reply, Word, Dword, World, OfHandles, OfResi
 use proofs.Absent.{slot_in_handle}
 use Rattle.std.specs.Prelude.{◌||◌}
 use Rattle.std.proofs.lemmas.Bool.{eq-eqb, eqb-true, ne_eqb}
-use Rattle.w16_model.specs.{Calls.HandleCommand, Calls.Answer, Calls.HandleCommand.GlobalAlloc, Outcomes.Call, Outcomes.Resized, Outcomes.Outcome.IsSame}
+use Rattle.w16_model.specs.{Calls.Answer, Outcomes.Call, Outcomes.Resized, Outcomes.Outcome.IsSame}
+use Rattle.w16_model.specs.Commands.{Command}
+use Rattle.w16_loading.specs.Families.{AnyCommand}
+use Rattle.w16_model.specs.Commands.Family.{OfHandles}
+use Rattle.w16_model.specs.Commands.Command.{GlobalAlloc}
 use Rattle.w16_model.proofs.{CallOrders.resized_leaves, Fewest.some_handle}
 use Rattle.std.specs.FinMap as finmap
 use Rattle.w16_model.specs.Calls as calls
+use Rattle.w16_loading.specs.Families.AnyCommand.{any}
 
 -- a filter that leaves as many leaves all
 filter_all : (p : ℕ → Bool) (l : List ℕ) → length l ≤ length (filter p l) → filter p l ≡ l
@@ -179,7 +184,7 @@ module _ (honest : Type 0) (old : World) (is : C.IsWorldOver honest old) (mid : 
       (rw same (is.0.heaps.heaps q))
 
   -- a call of another kind gives no object another size, nor does a discard
-  other_call : (command : HandleCommand) (answer : Answer) (r : Resized old.loading.handles (Calls command) answer mid.loading.handles) → r.first ≡ r.slot
+  other_call : (command : Command OfHandles) (answer : Answer) (r : Resized old.loading.handles (Calls command) answer mid.loading.handles) → r.first ≡ r.slot
   other_call command answer r = absurd (let e = r.asked in cc)
 
   discarded : (handle : ℕ) (answer : Answer) (r : Resized old.loading.handles (ReAllocs handle 0 C.GMEM_MOVEABLE) answer mid.loading.handles) → r.first ≡ r.slot
@@ -213,21 +218,21 @@ module _ (honest : Type 0) (old : World) (is : C.IsWorldOver honest old) (mid : 
   kept true slot before stay = stay refl
   kept false slot before stay = tt
 
-  pub others_stay : (command : C.Command) (reply : Reply) → C.Unswept honest old command reply mid
+  pub others_stay : (command : AnyCommand) (reply : Reply) → C.Unswept honest old command reply mid
       → OthersStay (C.object_slot command (C.word_of reply)) (C.discardable_beside (C.object_slot command 0) old.loading.handles.heap) mid
-  others_stay (OfHandles (GlobalAlloc flags size)) (Word handle) s = by_call
+  others_stay (any _ (GlobalAlloc flags size)) (Word handle) s = by_call
       (Calls (GlobalAlloc flags size)) (calls.Answer.Word handle) refl
       (other_call _ _) (ap (λ (w : World). w.heaps) s.1) s.0
       (length (without 0 order)) (shorter 0 (handle / 8) order none_at_0)
-  others_stay (OfHandles (GlobalAlloc flags size)) reply s = absurd s.0
-  others_stay (OfHandles (GlobalFree handle)) reply s = freed handle (C.answer_in reply) (ap (λ (w : World). w.heaps) s.1) s.0
-  others_stay (OfHandles (GlobalCompact size)) (Dword longest) s = by_call (Calls (GlobalCompact size)) (calls.Answer.Dword longest) refl
+  others_stay (any _ (GlobalAlloc flags size)) reply s = absurd s.0
+  others_stay (any _ (GlobalFree handle)) reply s = freed handle (C.answer_in reply) (ap (λ (w : World). w.heaps) s.1) s.0
+  others_stay (any _ (GlobalCompact size)) (Dword longest) s = by_call (Calls (GlobalCompact size)) (calls.Answer.Dword longest) refl
       (other_call _ _) (ap (λ (w : World). w.heaps) s.1) s.0 (length (without 0 order)) (omega arith)
-  others_stay (OfHandles (GlobalCompact size)) reply s = absurd s.0
-  others_stay (OfResizes (C.GlobalReAlloc handle size flags)) (Word answer) s = kept ((answer == 0) || (answer / 8 == handle / 8)) _ _
+  others_stay (any _ (GlobalCompact size)) reply s = absurd s.0
+  others_stay (any _ (C.GlobalReAlloc handle size flags)) (Word answer) s = kept ((answer == 0) || (answer / 8 == handle / 8)) _ _
       (λ here. by_call (ReAllocs handle size flags) (calls.Answer.Word answer) refl (same_slot _ _ _ _ here) (ap (λ (w : World). w.heaps) s.1) s.0 (length (without (handle / 8) order)) (omega arith))
-  others_stay (OfResizes (C.GlobalReAlloc handle size flags)) reply s = absurd s.0
-  others_stay (OfResizes (C.GlobalDiscard handle)) (Word answer) s = by_call (ReAllocs handle 0 C.GMEM_MOVEABLE) (calls.Answer.Word answer) refl
+  others_stay (any _ (C.GlobalReAlloc handle size flags)) reply s = absurd s.0
+  others_stay (any _ (C.GlobalDiscard handle)) (Word answer) s = by_call (ReAllocs handle 0 C.GMEM_MOVEABLE) (calls.Answer.Word answer) refl
       (discarded _ _) (ap (λ (w : World). w.heaps) s.1) s.0 (length (without (handle / 8) order)) (omega arith)
-  others_stay (OfResizes (C.GlobalDiscard handle)) reply s = absurd s.0
+  others_stay (any _ (C.GlobalDiscard handle)) reply s = absurd s.0
   others_stay command reply s = tt

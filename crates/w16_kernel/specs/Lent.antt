@@ -1,11 +1,15 @@
 -- Bytes of objects that are lent: far accesses that copy nothing, and what a borrower leaves.
 use Rattle.std.specs.Prelude.{◌≡◌, ℕ, Bool, true, false, List, length, Some, Result, Ok, Err}
-use Rattle.w16_model.specs.{declared.FarFault.FarFault, Handles.Handles, Handles.offset_in, Handles.selector_in, Far.FarCommand, Far.FarCommand.Read, Far.FarCommand.Write}
+use Rattle.w16_model.specs.{declared.FarFault.FarFault, Handles.Handles, Handles.offset_in, Handles.selector_in}
+use Rattle.w16_model.specs.Commands.{Command}
+use Rattle.w16_model.specs.Commands.Family.{OfFar}
+use Rattle.w16_model.specs.Commands.Command.{Read, Write}
 use Rattle.w16_global.specs.{Access.access_fault, Loans.IsPlaceIn, Loans.left_of, Loans.lent_bytes, Loans.with_bytes_there, declared.loan.Place.Place}
-use Rattle.w16_loading.specs.{Families.Command.OfFar, Modules.with_handles, Law.FarReplies, Replies.Reply, Replies.Reply.Bytes, Replies.Reply.Done, Replies.Reply.Failed, Replies.Reply.Fault}
+use Rattle.w16_loading.specs.{Modules.with_handles, Law.FarReplies, Replies.Reply, Replies.Reply.Bytes, Replies.Reply.Done, Replies.Reply.Failed, Replies.Reply.Fault}
 use Rattle.w16_machine.specs.{World.World}
 use Rattle.w16_kernel.specs.{Parts.IsWorldOver, Parts.KernelStep, Runs.reply_of}
 use Rattle.w16_kernel.specs.declared.call.Reply as code
+use Rattle.w16_loading.specs.Families.AnyCommand.{any}
 
 -- a place of so many bytes that are there
 abbrev pub IsFound : ℕ → Handles → Place → Type 0
@@ -25,10 +29,10 @@ with_left w place new = record w { loading = with_handles w.loading (with_bytes_
 -- A place that an access through a pointer took: whatever bytes stand there, as many as there are, are what a write of them leaves.
 pub record IsTaken (honest : Type 0) (before : World) (pointer : ℕ) (w : World) (place : Place) : Type 0 where
   pub sound : IsWorldOver honest before
-  pub writes : (bytes : List ℕ) → length bytes ≡ place.count → KernelStep honest before (OfFar (Write pointer bytes)) Done (with_left w place bytes)
+  pub writes : (bytes : List ℕ) → length bytes ≡ place.count → KernelStep honest before (any _ (Write pointer bytes)) Done (with_left w place bytes)
 
 -- what holds of a read of so many bytes, or of each write of as many
-abbrev pub OfEach : Bool → ℕ → ℕ → (FarCommand → Type 0) → Type 0
+abbrev pub OfEach : Bool → ℕ → ℕ → (Command OfFar → Type 0) → Type 0
 OfEach false pointer count Holds = Holds (Read pointer count)
 OfEach true pointer count Holds = (bytes : List ℕ) → length bytes ≡ count → Holds (Write pointer bytes)
 
@@ -41,9 +45,9 @@ IsFarFault reply = ⊥
 -- An access that copies nothing is a read of the bytes at the place that it answers; if they are to be written, it is a write of whatever is left
 -- there. Where there is none, the reply is what each such access would have got.
 abbrev pub FindsPlace : Type 0 → World → Bool → ℕ → ℕ → Result Place code.Reply → World → Type 0
-FindsPlace honest old write pointer count (Ok place) new = KernelStep honest old (OfFar (Read pointer count)) (Bytes (lent_bytes new.loading.handles place)) new
+FindsPlace honest old write pointer count (Ok place) new = KernelStep honest old (any _ (Read pointer count)) (Bytes (lent_bytes new.loading.handles place)) new
     × IsFound count new.loading.handles place × (write ≡ true → IsTaken honest old pointer new place)
-FindsPlace honest old write pointer count (Err reply) new = OfEach write pointer count (λ command. KernelStep honest old (OfFar command) (reply_of reply) new)
+FindsPlace honest old write pointer count (Err reply) new = OfEach write pointer count (λ command. KernelStep honest old (any OfFar command) (reply_of reply) new)
 
 -- the world once a place was lent, and others are left there
 abbrev pub after_lending : Place → World → List ℕ → World

@@ -1,18 +1,16 @@
 -- Why calls are refused, by what the world answers to questions.
 use Rattle.std.specs.Prelude.{◌≡◌, ◌%◌, ◌<◌, ℕ, true, false, None, IsNone, IsSome, option_map, unwrap_or}
-use Rattle.w16_model.specs.Calls.HandleCommand.{GlobalSize, GlobalFlags, GlobalHandle, GetSelectorBase, GetSelectorLimit}
-use Rattle.w16_model.specs.Far.FarCommand.{Read, Write, Fill}
+use Rattle.w16_loading.specs.Families.{AnyCommand}
+use Rattle.w16_model.specs.Commands.Family.{OfHandles, OfLocals}
+use Rattle.w16_model.specs.Commands.Command.{GlobalSize, GlobalFlags, GlobalHandle, GetSelectorBase, GetSelectorLimit, GlobalReAlloc, GlobalDiscard, Read, Write, Fill, FreeLibrary, FreeModule, GetModuleUsage, GetProcAddress, FindResource, LoadResource, SizeofResource, LocalInit, DS}
 use Rattle.w16_model.specs.{Calls.global_flags, Calls.global_handle, Calls.global_size, Calls.has_flag, Calls.selector_limit, CallLaws.handle_in, Outcomes.Call.Calls, Handles.selector_in}
 use Rattle.w16_model.specs.{Handles.slot_of_handle, Owned.owns, declared.TheConstants.GMEM_DISCARDABLE}
-use Rattle.w16_loading.specs.Families.Command.{OfHandles, OfResizes, OfFar, OfModules, OfResources, OfLocals}
-use Rattle.w16_loading.specs.Families.ModuleCommand.{FreeLibrary, FreeModule, GetModuleUsage, GetProcAddress}
-use Rattle.w16_loading.specs.Families.ResourceCommand.{FindResource, LoadResource, SizeofResource}
-use Rattle.w16_loading.specs.{Resizes.ResizeCommand.GlobalReAlloc, Resizes.ResizeCommand.GlobalDiscard, Families.LocalCommand.LocalInit, Families.LocalCommand.DS, Families.Command}
 use Rattle.w16_machine.specs.{Local.current_heap, Local.object_named, LocalCalls.asked_of, LocalCalls.local_flags, LocalCalls.local_size, LocalLaw.named_by, World.World}
 use Rattle.w16_machine.specs.{declared.local.TheConstants.LMEM_DISCARDABLE}
 use Rattle.w16_kernel.specs.declared.kernel.why.Why.{Why}
 use Rattle.std.specs.FinMap as finmap
 use Rattle.w16_kernel.specs.declared.kernel.why.Why.TheVariants as why
+use Rattle.w16_loading.specs.Families.AnyCommand.{any}
 
 -- what a command names, by which it may be refused
 pub data Subject : Type 0 where
@@ -23,28 +21,28 @@ pub data Subject : Type 0 where
   LocalObject : (name : ℕ) → Subject
   Other : Subject
 
-abbrev pub subject_of : Command → Subject
-subject_of (OfHandles (GlobalSize handle)) = Object handle
-subject_of (OfHandles (GlobalFlags handle)) = Object handle
-subject_of (OfResizes (GlobalReAlloc handle size flags)) = Object handle
-subject_of (OfResizes (GlobalDiscard handle)) = Object handle
-subject_of (OfHandles (GlobalHandle selector)) = Selector selector
-subject_of (OfHandles (GetSelectorBase selector)) = Selector selector
-subject_of (OfHandles (GetSelectorLimit selector)) = Selector selector
-subject_of (OfHandles command) = unwrap_or (option_map Object (handle_in (Calls command))) Other
-subject_of (OfFar (Read pointer count)) = Selector (selector_in pointer)
-subject_of (OfFar (Write pointer bytes)) = Selector (selector_in pointer)
-subject_of (OfFar (Fill pointer count byte)) = Selector (selector_in pointer)
-subject_of (OfModules (FreeLibrary handle)) = Module handle
-subject_of (OfModules (FreeModule handle)) = Module handle
-subject_of (OfModules (GetModuleUsage handle)) = Module handle
-subject_of (OfModules (GetProcAddress handle label)) = Module handle
-subject_of (OfResources (FindResource handle name kind)) = Module handle
-subject_of (OfResources (LoadResource handle place)) = Module handle
-subject_of (OfResources (SizeofResource handle place)) = Module handle
-subject_of (OfLocals (LocalInit selector start end)) = Other
-subject_of (OfLocals (DS selector)) = Other
-subject_of (OfLocals command) = unwrap_or (option_map LocalObject (named_by command)) LocalHeap
+abbrev pub subject_of : AnyCommand → Subject
+subject_of (any _ (GlobalSize handle)) = Object handle
+subject_of (any _ (GlobalFlags handle)) = Object handle
+subject_of (any _ (GlobalReAlloc handle size flags)) = Object handle
+subject_of (any _ (GlobalDiscard handle)) = Object handle
+subject_of (any _ (GlobalHandle selector)) = Selector selector
+subject_of (any _ (GetSelectorBase selector)) = Selector selector
+subject_of (any _ (GetSelectorLimit selector)) = Selector selector
+subject_of (any OfHandles command) = unwrap_or (option_map Object (handle_in (Calls command))) Other
+subject_of (any _ (Read pointer count)) = Selector (selector_in pointer)
+subject_of (any _ (Write pointer bytes)) = Selector (selector_in pointer)
+subject_of (any _ (Fill pointer count byte)) = Selector (selector_in pointer)
+subject_of (any _ (FreeLibrary handle)) = Module handle
+subject_of (any _ (FreeModule handle)) = Module handle
+subject_of (any _ (GetModuleUsage handle)) = Module handle
+subject_of (any _ (GetProcAddress handle label)) = Module handle
+subject_of (any _ (FindResource handle name kind)) = Module handle
+subject_of (any _ (LoadResource handle place)) = Module handle
+subject_of (any _ (SizeofResource handle place)) = Module handle
+subject_of (any _ (LocalInit selector start end)) = Other
+subject_of (any _ (DS selector)) = Other
+subject_of (any OfLocals command) = unwrap_or (option_map LocalObject (named_by command)) LocalHeap
 subject_of command = Other
 
 -- a reason holds in a world, of what a call names

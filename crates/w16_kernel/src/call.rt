@@ -5,14 +5,9 @@ use arrayvec::ArrayVec;
 use w16_global::{GlobalAllocFlags, GlobalReAllocFlags};
 use w16_loading::FetchFault;
 use w16_local::{LocalAllocFlags, LocalReAllocFlags};
+use w16_machine::access::MOST_READ;
 use w16_model::FarFault;
 use w16_model::names::slot_of;
-
-/// The most bytes that a `Read` answers.
-pub const MOST_READ: usize = 1024;
-
-/// The most bytes that a `Fill` fills.
-pub const MOST_FILLED: u32 = 65_536;
 
 /// Bytes that a `Read` answered, in place.
 pub type Chunk = ArrayVec<u8, MOST_READ>;
@@ -74,7 +69,7 @@ pub enum Call<'a> {
     },
     Moved,
     Walk,
-    /// The pointer has a selector in its high word. At most [`MOST_READ`] bytes are read.
+    /// The pointer has a selector in its high word. At most [`crate::MOST_READ`] bytes are read.
     Read {
         pointer: u32,
         count: u32,
@@ -83,7 +78,7 @@ pub enum Call<'a> {
         pointer: u32,
         bytes: &'a [u8],
     },
-    /// At most [`MOST_FILLED`] bytes are filled.
+    /// At most [`crate::MOST_FILLED`] bytes are filled.
     Fill {
         pointer: u32,
         count: u32,
@@ -184,7 +179,7 @@ pub enum Call<'a> {
 impl Call<'_> {
     ghost use Rattle.std.specs.Prelude.{◌≡◌};
     ghost use Rattle.w16_kernel.specs.Parts.{object_slot};
-    ghost use Rattle.w16_machine.specs.Columns.{may_take_bytes};
+    ghost use Rattle.w16_machine.specs.Rows.{may_take_bytes};
     ghost use Rattle.w16_kernel.specs.Runs.{command_of};
 
     /// Whether the call may take bytes of an object of the global heap, and so a local heap with them: false of a far access that fetches and of a

@@ -1,12 +1,12 @@
 //! Far accesses, which fetch the objects of modules that they meet without bytes.
 ghost use Rattle.std.specs.Prelude.{◌≡◌, ◌<◌, ◌≤◌, ◌/◌, All, length, IfErr, IfNone, IfSome, OnErr, OnOk, None};
 ghost use Rattle.std.specs.FinMap as finmap;
-ghost use Rattle.w16_model.specs.Far.FarCommand.{Read};
+ghost use Rattle.w16_model.specs.Commands.Family.{OfFar};
+ghost use Rattle.w16_model.specs.Commands.Command.{Read};
 ghost use Rattle.w16_model.specs.Owned.{owned_at};
 ghost use Rattle.w16_model.specs.declared.FarFault.TheVariants.{NotPresent};
 ghost use Rattle.w16_global.specs.Owned.{LacksBytes};
 ghost use Rattle.w16_global.specs.Loans.{IsPlaceIn, lent_bytes, with_bytes_there};
-ghost use Rattle.w16_loading.specs.Families.Command.{OfFar};
 ghost use Rattle.w16_loading.specs.Law.{IsLoadingWorld};
 ghost use Rattle.w16_loading.specs.Modules.{LoadingWorld, with_handles};
 ghost use Rattle.w16_format.specs.Ne.{ne_format};
@@ -18,13 +18,15 @@ ghost use Rattle.w16_kernel.specs.Lent.{FindsPlace, FindsPlaceOnce, IsFarFault};
 ghost use Rattle.w16_kernel.specs.Parts.{IsWorldOver};
 ghost use Rattle.w16_resource.specs.Parts.{IsLoadingOver};
 ghost use Rattle.w16_kernel.specs.Runs.{IsReply, bytes_written, reply_of, write_of};
+ghost use Rattle.w16_loading.specs.Families.AnyCommand.{any};
 
-use crate::call::{MOST_READ, Reply};
+use crate::call::Reply;
 use crate::parts::{Parts, sweep_all};
 use std::alloc::Allocator;
 use w16_global::Place;
 use w16_loader::{Registry, SegmentSource, fetch};
 use w16_loading::FetchFault;
+use w16_machine::access::MOST_READ;
 use w16_model::FarFault;
 use w16_model::names::{offset_in, selector_in, slot_of};
 use w16_resource::Loading;
@@ -188,7 +190,7 @@ pub fn read<'r, S: Store + Drop, A: Allocator + Copy>(
     room: &'r mut [u8],
 ) -> Reply<'r>
     requires { IsWorldOver S.is_honest parts.old }
-    ensures step { Step S.is_honest ne_format parts.old (OfFar (Read pointer (length room.old))) (reply_of result) parts.new }
+    ensures step { Step S.is_honest ne_format parts.old (any _ (Read pointer (length room.old))) (reply_of result) parts.new }
     ensures short { length room.old ≤ MOST_READ → IsReply result }
 {
     let place = match find(parts, pointer, room.len(), false) {
@@ -255,7 +257,7 @@ pub fn write<S: Store + Drop, A: Allocator + Copy>(
     written: Written<'_>,
 ) -> Reply<'static>
     requires { IsWorldOver S.is_honest parts.old }
-    ensures step { Step S.is_honest ne_format parts.old (OfFar (write_of pointer written.entry)) (reply_of result) parts.new }
+    ensures step { Step S.is_honest ne_format parts.old (any OfFar (write_of pointer written.entry)) (reply_of result) parts.new }
     ensures short { IsReply result }
 {
     let place = match find(parts, pointer, count_of(written), true) {

@@ -21,7 +21,7 @@ mod peek;
 mod questions;
 pub mod why;
 
-use crate::call::{Answer, Call, MOST_READ, Reply};
+use crate::call::{Answer, Call, Reply};
 use crate::growing::{AddFault, GrowingStore, RemoveFault};
 use crate::kernel::modules::is_loaded_from;
 use crate::parts::Parts;
@@ -31,6 +31,7 @@ use std::marker::Model;
 use w16_global::Global16;
 use w16_loader::Registry;
 use w16_local::LocalHeaps;
+use w16_machine::access::MOST_READ;
 use w16_model::{GRAIN, Item, MOST_SLOTS};
 use w16_reloc::Scratch;
 use w16_resource::{Loading, Resources};

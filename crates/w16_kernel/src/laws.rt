@@ -1,6 +1,6 @@
 //! Laws of the machine's figures, and of descriptors. Each function does nothing: its contract is the law.
 ghost use Rattle.std.specs.Prelude.{◌≡◌};
-ghost use Rattle.w16_kernel.specs.declared.call.TheConstants.{MOST_FILLED, MOST_READ};
+ghost use Rattle.w16_machine.specs.declared.access.TheConstants.{MOST_FILLED, MOST_READ};
 ghost use Rattle.w16_kernel.specs.declared.growing.TheConstants.{MOST_NAME};
 ghost use Rattle.w16_kernel.specs.Descriptors.{DescriptorsLaw};
 

@@ -13,7 +13,7 @@ mod resource;
 mod sizes;
 mod step;
 
-pub use call::{Answer, Call, Chunk, Label, MOST_FILLED, MOST_READ, Reply};
+pub use call::{Answer, Call, Chunk, Label, Reply};
 pub use growing::{AddFault, GrowingStore, MOST_NAME, RemoveFault};
 pub use kernel::Kernel;
 pub use kernel::facts::{Facts, Source};
@@ -24,3 +24,4 @@ pub use machine::Machine;
 pub use sizes::{MOST_MEMORY, SizeFault, check_sizes};
 pub use w16_global::{Descriptor, GlobalAllocFlags, GlobalReAllocFlags, Place};
 pub use w16_local::{LocalAllocFlags, LocalReAllocFlags};
+pub use w16_machine::access::{MOST_FILLED, MOST_READ};

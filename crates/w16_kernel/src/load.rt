@@ -2,15 +2,16 @@
 ghost use Rattle.std.specs.Prelude.{◌≡◌, IfOk, OnErr};
 ghost use Rattle.w16_loading.specs.Answers.{StepOver};
 ghost use Rattle.w16_loading.specs.Families as families;
+ghost use Rattle.w16_model.specs.Commands.Family.{OfModules};
 ghost use Rattle.w16_loading.specs.Families.{pointer_to, proc_address};
 ghost use Rattle.w16_loader.specs.Loading.{load_answer};
 ghost use Rattle.w16_loading.specs.Free.{Frees};
-ghost use Rattle.w16_loading.specs.Families.Command.{OfModules};
 ghost use Rattle.w16_loading.specs.Modules.{LoadingWorld};
 ghost use Rattle.w16_format.specs.Ne.{ne_format};
 ghost use Rattle.w16_loader.specs.Registry.{in_world};
 ghost use Rattle.w16_kernel.specs.Parts.{IsSameLoading};
 ghost use Rattle.w16_kernel.specs.Runs.{label_of, load_command, reply_of, IsReply};
+ghost use Rattle.w16_loading.specs.Families.AnyCommand.{any};
 
 use crate::call::{Label, Reply};
 use std::alloc::{AllocError, Allocator};
@@ -27,7 +28,7 @@ pub fn load_reply<S: Store + Drop, A: Allocator + Copy>(
     file: &[u8],
     is_load_module: bool,
 ) -> Result<Reply<'static>, AllocError>
-    ensures step { IfOk result (λ reply. StepOver S.is_honest ne_format loading.old (OfModules (load_command is_load_module file.now)) (reply_of reply) loading.new) }
+    ensures step { IfOk result (λ reply. StepOver S.is_honest ne_format loading.old (any OfModules (load_command is_load_module file.now)) (reply_of reply) loading.new) }
     ensures short { IfOk result (λ reply. IsReply reply) }
     ensures refused { OnErr result (IsSameLoading loading.old loading.new) }
 {

@@ -4,14 +4,15 @@ ghost use Rattle.w16_model.specs.Handles.{handle_of};
 ghost use Rattle.w16_model.specs.{Law.IsFirstItem, Walk.IsItem};
 ghost use Rattle.w16_loading.specs.Replies as printed;
 ghost use Rattle.w16_machine.specs.{Law.IsWorldWalk, World.World};
-ghost use Rattle.w16_loading.specs.Families.{Command};
+ghost use Rattle.w16_loading.specs.Families.{AnyCommand};
 ghost use Rattle.w16_kernel.specs.Made.{IsMade};
 ghost use Rattle.w16_kernel.specs.Parts.{KernelStep};
 ghost use Rattle.w16_kernel.specs.Runs.{IsCall};
 
-use crate::call::{Call, MOST_READ, Reply};
+use crate::call::{Call, Reply};
 use crate::kernel::Kernel;
 use std::alloc::{AllocError, Allocator};
+use w16_machine::access::MOST_READ;
 use w16_model::Item;
 use w16_store::Store;
 
@@ -22,7 +23,7 @@ pub trait Machine {
     ghost world: { Self → World };
 
     /// The steps that it may take.
-    ghost steps: { World → Command → printed.Reply → World → Type 0 };
+    ghost steps: { World → AnyCommand → printed.Reply → World → Type 0 };
 
     /// One call: a step that it may take, and a run of one step, which keeps what each run promises. Bytes that are read are put into the room. An
     /// error is that there was no memory, for a new local heap, a built-in or a load, and the world is the same except for the count of the store's

@@ -5,12 +5,13 @@ ghost use Rattle.w16_format.specs.Tables.{label_in};
 ghost use Rattle.w16_ne.specs.Resources.{label_of as ne_label};
 ghost use Rattle.w16_loader.specs.Registry.{in_world};
 ghost use Rattle.w16_loading.specs.Answers.{StepOver};
-ghost use Rattle.w16_loading.specs.Families.Command.{OfResources};
-ghost use Rattle.w16_loading.specs.Families.ResourceCommand.{LoadResource, LockResource};
+ghost use Rattle.w16_model.specs.Commands.Family.{OfResources};
+ghost use Rattle.w16_model.specs.Commands.Command.{LoadResource, LockResource};
 ghost use Rattle.w16_loading.specs.Modules.{LoadingWorld};
 ghost use Rattle.w16_loading.specs.Resource as meaning;
 ghost use Rattle.w16_resource.specs.Parts.{IsLoadingOver, dword_in, word_in};
 ghost use Rattle.w16_kernel.specs.Runs.{label_of, reply_of, IsReply};
+ghost use Rattle.w16_loading.specs.Families.AnyCommand.{any};
 
 use crate::call::{Label, Reply};
 use std::alloc::Allocator;
@@ -72,7 +73,7 @@ pub fn load_resource<S: Store + Drop, A: Allocator + Copy>(
     place: u16,
 ) -> Reply<'static>
     requires { IsLoadingOver S.is_honest loading.old }
-    ensures step { StepOver S.is_honest ne_format loading.old (OfResources (LoadResource handle place)) (reply_of result) loading.new }
+    ensures step { StepOver S.is_honest ne_format loading.old (any _ (LoadResource handle place)) (reply_of result) loading.new }
     ensures short { IsReply result }
 {
     word_reply(loading.load_resource(handle, place))
@@ -85,7 +86,7 @@ pub fn lock_resource<S: Store + Drop, A: Allocator + Copy>(
     handle: u16,
 ) -> Reply<'static>
     requires { IsLoadingOver S.is_honest loading.old }
-    ensures step { StepOver S.is_honest ne_format loading.old (OfResources (LockResource handle)) (reply_of result) loading.new }
+    ensures step { StepOver S.is_honest ne_format loading.old (any _ (LockResource handle)) (reply_of result) loading.new }
     ensures short { IsReply result }
 {
     dword_reply(loading.lock_resource(handle))

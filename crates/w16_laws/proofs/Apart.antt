@@ -35,7 +35,7 @@ module _ (old : C.LoadingWorld) (is : C.IsLoadingWorld old) (handle : ℕ) (m : 
   ]
     where
       same : (n : Named) → Some n ≡ Some (Loaded m) → C.imports n k ≡ true → C.imports (Loaded (record m { uses = m.uses - 1 })) k ≡ true
-      same n e t = let f : n ≡ Loaded m = cc in C.subst (λ (x : Named). C.imports x k ≡ true) f t
+      same n e t = let f : n ≡ Loaded m = cc in C.subst (λ x. C.imports x k ≡ true) f t
 
   -- so none is idle
   still_used : (0 < C.importers old.modules handle) ⊎ (1 < m.uses) → (k : ℕ) → Idle less.modules k → ⊥
@@ -54,7 +54,7 @@ module _ (old : C.LoadingWorld) (is : C.IsLoadingWorld old) (handle : ℕ) (m : 
       by_use (inr more) h e =
           let same : ◌≡◌ {A = C.Option Named} (Some (Loaded h.idle)) (Some (Loaded (record m { uses = m.uses - 1 }))) = sym h.loaded ∙ C.inserted_here old.modules handle (Loaded (record m { uses = m.uses - 1 })) k e in
           let left : h.idle ≡ record m { uses = m.uses - 1 } = cc in
-          let uses : h.idle.uses ≡ m.uses - 1 = ap (λ (x : Module). x.uses) left in
+          let uses : h.idle.uses ≡ m.uses - 1 = ap (λ x. x.uses) left in
           omega (arith, h.unused, uses, more)
 
   none_goes : (0 < C.importers old.modules handle) ⊎ (1 < m.uses) → (gone : C.List ℕ) (left : C.LoadingWorld) → Go less gone left → left ≡ less

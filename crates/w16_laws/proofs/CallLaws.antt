@@ -3,7 +3,7 @@ use Rattle.w16_model.proofs as model
 use Rattle.w16_model.proofs.CallOrders as K
 use Rattle.w16_laws.specs.CallLaws as W
 use model.CallLaws.{contents, next_own, place_own, next_other, place_beside, followed, other}
-use model.Common.{arith, Heap, ℕ, is_some, ◌≡◌, true, Bool, List, blocks, ◌<◌, map, [], ◌∷◌, inl, refl, sym, inr, ◌∙◌, ◌+◌, ap, Option, None, false≢true, Some, not, is_member, object_at, Object, Handles, Answer, next_slot, subst, counts_moved, Word, Dword, ◌⊎◌, without, cond, OnlyLeave}
+use model.Common.{arith, Heap, ℕ, is_some, ◌≡◌, true, Bool, List, blocks, ◌<◌, map, [], ◌∷◌, inl, refl, sym, inr, ◌∙◌, ◌+◌, ap, Option, None, false≢true, Some, not, is_member, object_at, Object, Handles, Answer, next_slot, subst, counts_moved, Word, ◌⊎◌, without, cond, OnlyLeave}
 use model.Common.{false, handle_in, ◌&&◌, newest, Ok, Err}
 use model.CallOrders.{stays}
 use model.{CallOutcomes.outcome, CallOutcomes.none_moved, Gaps.Member, Heaps.IsBlockOf, Heaps.member_block, Heaps.block_member, Heaps.blocks_rise, Heaps.keys_rise, KeptHeaps.bytes_in, KeptHeaps.taken_here, KeptHeaps.inserted_here, Discards.is_member-true, Discards.true-is_member}
@@ -17,7 +17,7 @@ use Rattle.std.specs.FinMap as finmap
 use Rattle.w16_model.proofs.Gaps as M
 
 pub contents_law : W.ContentsLaw
-contents_law old new call answer is m step = contents old new _ answer (outcome old new _ _ is step) m
+contents_law old new call answer is m step = contents old new call answer (outcome old new _ _ is step) m
 
 -- The bytes moved to a heap, from which each object of old goes on to its next slot.
 module _ (old mid new : Heap) (is : C.IsHeap old) (next : ℕ → ℕ) (goes : (q : ℕ) → is_some (finmap.get old.places q) ≡ true → finmap.get new.places (next q) ≡ finmap.get mid.places q) where
@@ -98,7 +98,7 @@ module _ (old new : Handles) (is : C.AreHandles old) (call : C.Call) (answer : A
   Sum = IsSumOfMoved old.heap new.heap (next_slot old call answer new) new.moved
 
   sized_again : (r : C.Resized old call answer new) → Sum
-  sized_again r = subst (IsSumOfMoved old.heap new.heap (next_slot old call answer new)) (sym (ap (λ (h : Handles). h.moved) r.rest)) (moved_sum old.heap r.heap new.heap is.heap (next_slot old call answer new) goes)
+  sized_again r = subst (IsSumOfMoved _ _ _) (sym (ap (λ h. h.moved) r.rest)) (moved_sum _ r.heap _ is.heap _ goes)
     where
       there_at : (q : ℕ) → is_some (finmap.get old.heap.places q) ≡ true → is_some (object_at old.heap q) ≡ true
       there_at q t = turn (object_at old.heap q) (sym (is.heap.at_bytes q) ∙ t)
@@ -109,50 +109,50 @@ module _ (old new : Handles) (is : C.AreHandles old) (call : C.Call) (answer : A
 
       goes : (q : ℕ) → is_some (finmap.get old.heap.places q) ≡ true → finmap.get new.heap.places (next_slot old call answer new q) ≡ finmap.get r.heap.places q
       goes q t = elim (C.cases_eq q r.slot) [
-        | inl e ↦ ap (finmap.get new.heap.places) (ap (next_slot old call answer new) e ∙ next_own old new is call answer r) ∙ place_own old new is call answer r ∙ ap (finmap.get r.heap.places) (sym e)
-        | inr d ↦ ap (finmap.get new.heap.places) (next_other old new is call answer r q d) ∙ place_beside old new is call answer r q (there_at q t) d
+        | inl e ↦ rw (e, next_own old new is call answer r) (place_own old new is call answer r)
+        | inr d ↦ rw (next_other old new is call answer r q d) (place_beside old new is call answer r q (there_at q t) d)
       ]
 
   module _ (stays : (q : ℕ) → next_slot old call answer new q ≡ q) where
     by_rest : new.moved ≡ C.moved_bytes old.heap new.heap → Sum
-    by_rest e = subst (IsSumOfMoved old.heap new.heap (next_slot old call answer new)) (sym e) (moved_sum old.heap new.heap new.heap is.heap (next_slot old call answer new) (λ q t. ap (finmap.get new.heap.places) (stays q)))
+    by_rest e = subst (IsSumOfMoved _ _ _) (sym e) (moved_sum _ new.heap _ is.heap _ (λ q t. ap (finmap.get new.heap.places) (stays q)))
 
     counted : C.Outcome old call answer new → counts_moved call ≡ true → Sum
     counted (C.IsSame s e) c = cc
-    counted (C.IsUnmoved s e) c = by_rest (ap (λ (h : Handles). h.moved) e ∙ sym (none_moved old.heap new.heap (ap (λ (h : Handles). h.heap.places) e)))
+    counted (C.IsUnmoved s e) c = by_rest (ap (λ h. h.moved) e ∙ sym (none_moved old.heap new.heap (rw e)))
     counted (C.IsLocked l) c = cc (ap counts_moved l.asked)
     counted (C.IsUnlocked u) c = cc (ap counts_moved u.asked)
     counted (C.IsFreed f) c = cc (ap counts_moved f.asked)
     counted (C.IsNewest n) c = cc (ap counts_moved n.asked)
     counted (C.IsOldest n) c = cc (ap counts_moved n.asked)
-    counted (C.IsEntered e) c = by_rest (ap (λ (h : Handles). h.moved) e.rest)
-    counted (C.IsAllocated a) c = by_rest (ap (λ (h : Handles). h.moved) a.rest)
-    counted (C.IsCompacted c) t = by_rest (ap (λ (h : Handles). h.moved) c.rest)
-    counted (C.IsModified m) c = by_rest (ap (λ (h : Handles). h.moved) m.rest)
-    counted (C.IsDiscarded d) c = by_rest (ap (λ (h : Handles). h.moved) d.rest ∙ ap (C.moved_bytes old.heap) (sym (ap (λ (h : Handles). h.heap) d.rest)))
+    counted (C.IsEntered e) c = by_rest (rw e.rest)
+    counted (C.IsAllocated a) c = by_rest (rw a.rest)
+    counted (C.IsCompacted c) t = by_rest (rw c.rest)
+    counted (C.IsModified m) c = by_rest (rw m.rest)
+    counted (C.IsDiscarded d) c = by_rest (rw d.rest)
     counted (C.IsResized r) c = sized_again r
 
   -- a handle isn't 0
   never : (handle slot : ℕ) → C.slot_of_handle old handle ≡ Some slot → answer ≡ Word handle → answer ≡ Word 0 → ⊥
-  never handle slot found says zero = let both : ◌≡◌ {A = Answer} (Word handle) (Word 0) = sym says ∙ zero in found_some old handle slot found (let e : handle ≡ 0 = cc in e)
+  never handle slot found says zero = found_some old handle slot found (cc)
 
   new_handle : (kind : Kind) (slot : ℕ) → answer ≡ Word (C.handle_of kind slot) → answer ≡ Word 0 → ⊥
-  new_handle kind slot says zero = let both : ◌≡◌ {A = Answer} (Word (C.handle_of kind slot)) (Word 0) = sym says ∙ zero in some_handle kind slot (let e : C.handle_of kind slot ≡ 0 = cc in e)
+  new_handle kind slot says zero = some_handle kind slot (cc)
 
   refused : C.Outcome old call answer new → counts_moved call ≡ true → answer ≡ Word 0 → new.moved ≡ 0
   refused (C.IsSame s e) c z = cc
-  refused (C.IsUnmoved s e) c z = ap (λ (h : Handles). h.moved) e
+  refused (C.IsUnmoved s e) c z = rw e
   refused (C.IsLocked l) c z = cc (ap counts_moved l.asked)
   refused (C.IsUnlocked u) c z = cc (ap counts_moved u.asked)
   refused (C.IsFreed f) c z = cc (ap counts_moved f.asked)
   refused (C.IsNewest n) c z = cc (ap counts_moved n.asked)
   refused (C.IsOldest n) c z = cc (ap counts_moved n.asked)
-  refused (C.IsEntered e) c z = absurd (new_handle (C.kind_asked e.flags) e.slot e.answered z)
-  refused (C.IsAllocated a) c z = absurd (new_handle (C.kind_asked a.flags) a.slot a.answered z)
-  refused (C.IsCompacted c) t z = let both : ◌≡◌ {A = Answer} (Dword c.longest) (Word 0) = sym c.answered ∙ z in cc
-  refused (C.IsModified m) c z = absurd (never m.handle m.slot m.named.found m.answered z)
-  refused (C.IsDiscarded d) c z = absurd (never d.handle d.slot d.named.found d.answered z)
-  refused (C.IsResized r) c z = absurd (new_handle r.object.kind r.first r.answered z)
+  refused (C.IsEntered e) c z = absurd (new_handle _ e.slot e.answered z)
+  refused (C.IsAllocated a) c z = absurd (new_handle _ a.slot a.answered z)
+  refused (C.IsCompacted c) t z = cc
+  refused (C.IsModified m) c z = absurd (never _ _ m.named.found m.answered z)
+  refused (C.IsDiscarded d) c z = absurd (never _ _ d.named.found d.answered z)
+  refused (C.IsResized r) c z = absurd (new_handle _ r.first r.answered z)
 
 pub moved_law : W.MovedLaw
 moved_law old new call answer is step =
@@ -164,7 +164,7 @@ moved_law old new call answer is step =
     by_slot o c (inr r) = sized_again old new is _ _ r
 
 oldest_rest : (id : ℕ) (l : List ℕ) → without id (C.oldest id l) ≡ without id l
-oldest_rest id l = ap (λ b. cond {A = List ℕ} (not b) (id ∷ without id (without id l)) (without id (without id l))) (C.eq-eqb id id refl) ∙ twice_out id l
+oldest_rest id l = rw (C.eq-eqb id id refl) (twice_out id l)
 
 -- What a step of a heap leaves of it.
 module _ (old new : Heap) where
@@ -183,18 +183,18 @@ module _ (old new : Heap) where
       turn q (inr m) = absurd m
 
   pub freed : (id : ℕ) → new ≡ C.removed old id → OnlyLeave new old.order new.order
-  freed id e = one_left id (ap (λ (h : Heap). C.bytes_at h id) e ∙ ap bytes_in (taken_here old.objects id id refl)) (ap (λ (h : Heap). h.order) e)
+  freed id e = one_left id (rw e (ap bytes_in (taken_here old.objects id id refl))) (rw e)
 
   pub resized : (id n : ℕ) (o : Object) (options : RoomOptions) → C.KeepsRest old id n o options new → OnlyLeave new (without id old.order) (without id new.order)
   resized id n o options k = K.discards old new (Some id) k.count k.others (without id old.order) (without id new.order) (K.rest_resized old new id n o options k)
 
 module _ (old new : Handles) (is : C.AreHandles old) (call : C.Call) (answer : Answer) where
   unordered : C.Outcome old call answer new → may_order call ≡ false → OnlyLeave new.heap old.heap.order new.heap.order
-  unordered (C.IsSame s e) m = same old.heap new.heap (ap (λ (h : Handles). h.heap.order) e)
-  unordered (C.IsUnmoved s e) m = same old.heap new.heap (ap (λ (h : Handles). h.heap.order) e)
+  unordered (C.IsSame s e) m = same old.heap new.heap (rw e)
+  unordered (C.IsUnmoved s e) m = same old.heap new.heap (rw e)
   unordered (C.IsLocked l) m = cc (ap may_order l.asked)
-  unordered (C.IsUnlocked u) m = same old.heap new.heap (ap (λ (h : Handles). h.heap.order) u.rest)
-  unordered (C.IsFreed f) m = freed old.heap new.heap f.slot (ap (λ (h : Handles). h.heap) f.rest)
+  unordered (C.IsUnlocked u) m = same old.heap new.heap (rw u.rest)
+  unordered (C.IsFreed f) m = freed old.heap new.heap f.slot (rw f.rest)
   unordered (C.IsNewest n) m = cc (ap may_order n.asked)
   unordered (C.IsOldest n) m = cc (ap may_order n.asked)
   unordered (C.IsEntered e) m = cc (ap may_order e.asked)
@@ -206,38 +206,38 @@ module _ (old new : Handles) (is : C.AreHandles old) (call : C.Call) (answer : A
 
   -- a call names its object
   about : (handle slot : ℕ) → handle_in call ≡ Some handle → C.slot_of_handle old handle ≡ Some slot → C.IsAbout old call slot
-  about handle slot names found = subst (λ p. C.IsSomeAnd p (λ h. C.slot_of_handle old h ≡ Some slot)) (sym names) found
+  about handle slot names found = rw names found
 
   abbrev Others : Type 0
   Others = W.OthersStand (C.IsAbout old call) (next_slot old call answer new) old.heap new.heap
 
   others_resized : C.Resized old call answer new → Others
-  others_resized r = inr (r.slot, inl (about r.handle r.slot (ap handle_in r.asked) r.named.found), subst (λ s. OnlyLeave new.heap (without r.slot old.heap.order) (without s new.heap.order)) (sym (next_own old new is call answer r)) (K.resized_leaves old new is call answer r))
+  others_resized r = inr (r.slot, inl (about _ r.slot (rw r.asked) r.named.found), rw (next_own old new is call answer r) (K.resized_leaves old new is call answer r))
 
   module _ (same_slot : (q : ℕ) → next_slot old call answer new q ≡ q) where
     left_by : (slot : ℕ) → OnlyLeave new.heap (without slot old.heap.order) (without slot new.heap.order) → OnlyLeave new.heap (without slot old.heap.order) (without (next_slot old call answer new slot) new.heap.order)
-    left_by slot l = subst (λ s. OnlyLeave new.heap (without slot old.heap.order) (without s new.heap.order)) (sym (same_slot slot)) l
+    left_by slot l = rw (same_slot slot) l
 
     of_named : (handle slot : ℕ) → handle_in call ≡ Some handle → C.slot_of_handle old handle ≡ Some slot → without slot new.heap.order ≡ without slot old.heap.order → Others
-    of_named handle slot names found e = inr (slot, inl (about handle slot names found), left_by slot (stays old.heap new.heap (without slot old.heap.order) (without slot new.heap.order) e))
+    of_named handle slot names found e = inr (slot, inl (about handle slot names found), left_by slot (stays old.heap new.heap _ _ e))
 
     others : C.Outcome old call answer new → Others
-    others (C.IsSame s e) = inl (same old.heap new.heap (ap (λ (h : Handles). h.heap.order) e))
-    others (C.IsUnmoved s e) = inl (same old.heap new.heap (ap (λ (h : Handles). h.heap.order) e))
-    others (C.IsLocked l) = of_named l.handle l.slot (ap handle_in l.asked) l.named.found (ap (λ (h : Handles). without l.slot h.heap.order) l.rest ∙ K.touched_rest l.slot old.heap.order)
-    others (C.IsUnlocked u) = inl (same old.heap new.heap (ap (λ (h : Handles). h.heap.order) u.rest))
-    others (C.IsFreed f) = inl (freed old.heap new.heap f.slot (ap (λ (h : Handles). h.heap) f.rest))
-    others (C.IsNewest n) = of_named n.handle n.slot (ap handle_in n.asked) n.named.found (ap (λ (h : Handles). without n.slot h.heap.order) n.rest ∙ K.newest_rest n.slot old.heap.order)
-    others (C.IsOldest n) = of_named n.handle n.slot (ap handle_in n.asked) n.named.found (ap (λ (h : Handles). without n.slot h.heap.order) n.rest ∙ oldest_rest n.slot old.heap.order)
-    others (C.IsEntered e) = inl (same old.heap new.heap (ap (λ (h : Heap). h.order) e.entered.entered))
+    others (C.IsSame s e) = inl (same old.heap new.heap (rw e))
+    others (C.IsUnmoved s e) = inl (same old.heap new.heap (rw e))
+    others (C.IsLocked l) = of_named _ l.slot (rw l.asked) l.named.found (rw l.rest (K.touched_rest l.slot old.heap.order))
+    others (C.IsUnlocked u) = inl (same old.heap new.heap (rw u.rest))
+    others (C.IsFreed f) = inl (freed old.heap new.heap f.slot (rw f.rest))
+    others (C.IsNewest n) = of_named _ n.slot (rw n.asked) n.named.found (rw n.rest (K.newest_rest n.slot old.heap.order))
+    others (C.IsOldest n) = of_named _ n.slot (rw n.asked) n.named.found (rw n.rest (oldest_rest n.slot old.heap.order))
+    others (C.IsEntered e) = inl (same old.heap new.heap (rw e.entered.entered))
     others (C.IsAllocated a) = inr (a.slot, inr (unused old is a.slot (C.slots_for (C.rounded_size a.size)) (some_slots (C.rounded_size a.size)) a.free), left_by a.slot (K.allocated old.heap new.heap is.heap a.slot a.count (C.alloc_options a.flags) a.object a.settled))
     others (C.IsCompacted c) = inl (K.compacted old.heap new.heap is.heap c.count c.settled)
-    others (C.IsModified m) = of_named m.handle m.slot (ap handle_in m.asked) m.named.found m.changes.rest
-    others (C.IsDiscarded d) = of_named d.handle d.slot (ap handle_in d.asked) d.named.found (ap (λ (h : Handles). without d.slot h.heap.order) d.rest ∙ twice_out d.slot old.heap.order)
+    others (C.IsModified m) = of_named _ m.slot (rw m.asked) m.named.found m.changes.rest
+    others (C.IsDiscarded d) = of_named _ d.slot (rw d.asked) d.named.found (rw d.rest (twice_out d.slot old.heap.order))
     others (C.IsResized r) = others_resized r
 
 pub unordered_law : W.UnorderedLaw
-unordered_law old new call answer is m step = unordered old new is _ answer (outcome old new _ _ is step) m
+unordered_law old new call answer is m step = unordered old new is call answer (outcome old new _ _ is step) m
 
 pub others_order_law : W.OthersOrderLaw
 others_order_law old new call answer is step = elim (followed old new _ _ is step) [
@@ -270,7 +270,7 @@ new_object_law old new flags size handle is a listed = made (C.is_absent_asked f
 -- Uses of an object in the order.
 module _ (old new : Handles) (is : C.AreHandles old) (handle slot : ℕ) (o : Object) (found : C.slot_of_handle old handle ≡ Some slot) (there : object_at old.heap slot ≡ Some o) (listed : C.is_in_order (Some o) ≡ true) where
   parts : C.IsTrue (C.is_discardable o.kind) × C.IsTrue (is_some o.bytes)
-  parts = C.and_parts (C.is_discardable o.kind) (is_some o.bytes) listed
+  parts = C.and_parts _ _ listed
 
   member : is_member slot old.heap.order ≡ true
   member = is.heap.in_order slot ∙ ap C.is_in_order there ∙ listed

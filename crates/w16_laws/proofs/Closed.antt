@@ -77,7 +77,7 @@ module _ {honest : Type 0} (truly : honest) (format : C.Format) (before later : 
 
     new_so : (read : ModuleFile) → said ≡ Ok read → meant a found read.tables.name ≡ None → (s t : Bool) → MatchResult said (λ read. are_sound read ≡ s) (λ refusal. ⊥) → nat_lt (length found) a.free ≡ t → reading_of said ≡ by_tests read s t
     new_so read e none s t sound few =
-        let are : are_sound read ≡ s = subst (λ (r : OrRefused ModuleFile). MatchResult r (λ read. are_sound read ≡ s) (λ refusal. ⊥)) e sound in
+        let are : are_sound read ≡ s = subst (λ r. MatchResult r (λ read. are_sound read ≡ s) (λ refusal. ⊥)) e sound in
         ap reading_of e ∙ ap (by_name read) none ∙ (λ i. by_tests read (are i) (few i))
 
     reads_so : (r : Reading) → ReadsFile answers a found name r → reading_of said ≡ r
@@ -112,7 +112,7 @@ module _ {honest : Type 0} (truly : honest) (format : C.Format) (before later : 
           (λ referent. ClosesFrom answers a n (with_bound here place referent) outcome)
           → Ends (elim p [ Some referent ↦ Ok (with_bound here place referent) | None ↦ follow here place name (reading format.says a closure.found (dll name)) ])
       follows go (Some referent) f = go (with_bound here place referent) f
-      follows go None (r, h, f) = subst (λ (x : Reading). Ends (follow here place name x)) (sym (reads closure.found (dll name) r h)) (ends go (follow here place name r) f)
+      follows go None (r, h, f) = subst (λ x. Ends (follow here place name x)) (sym (reads closure.found (dll name) r h)) (ends go (follow here place name r) f)
 
 pub files_law : (honest : Type 0) → ClosureFilesLaw honest
 files_law honest format before later old count closure outcome truly f = let c = closes truly format before later old _ _ _ f in (count, c.0, c.1)

@@ -6,7 +6,7 @@ use model.Common.{Done, Fault, IsWritten}
 use model.{Accesses.bytes_fault, Parts.All-repeated, KeptHandles.read_handles, KeptHandles.write_handles, KeptHeaps.bytes_in, FarLaws.far_effect_law}
 use Rattle.w16_laws.specs.{Heaps.FarLaw, CallLaws.ReadBackLaw}
 use Rattle.w16_model.specs.declared.FarFault.TheVariants.{Limit, BadSelector}
-use Rattle.w16_model.specs.{declared.TheConstants.REACH, declared.FarFault.FarFault}
+use Rattle.w16_model.specs.{declared.TheConstants.REACH}
 
 -- an access to bytes that the selector reaches is without a fault
 pub reached_fault : (handles : Handles) (selector offset n : ℕ) (p : Part) (bytes : List ℕ) → C.part_of_selector handles selector ≡ Some p → C.bytes_at handles.heap p.slot ≡ Some bytes → offset + n ≤ REACH → REACH * p.number + (offset + n) ≤ length bytes
@@ -34,11 +34,11 @@ far_law old new (Fill pointer count byte) answer is command step =
 module _ (mid : Handles) (selector offset : ℕ) (slice : List ℕ) (p : Part) (object : Object) (after : List ℕ) (found : C.part_of_selector mid selector ≡ Some p) (there : object_at mid.heap p.slot ≡ Some object) (has : object.bytes ≡ Some after)
     (near : offset + length slice ≤ REACH) (fits : REACH * p.number + (offset + length slice) ≤ length after) where
   reads : (far_read mid selector offset (length slice)).0 ≡ Bytes (part after (REACH * p.number + offset) (length slice))
-  reads = ap (λ (f : Option FarFault). (elim f as (λ _. C.FarAnswer × Handles) [
+  reads = ap (λ f. (elim f as (λ _. C.FarAnswer × Handles) [
     | Some fault ↦ (Fault fault, mid)
     | None ↦ (Bytes (part (C.far_bytes mid selector) (C.far_at mid selector offset) (length slice)), record mid { heap = C.after_touch mid.heap (C.far_slot mid selector) })
   ]).0) (reached_fault mid selector offset (length slice) p after found (ap bytes_in there ∙ has) near fits)
-      ∙ ap (λ (s : Option Part). let p : Part = unwrap_or s (record { slot = 0; number = 0 }) in Bytes (part (unwrap_or (C.bytes_at mid.heap p.slot) []) (REACH * p.number + offset) (length slice))) found
+      ∙ ap (λ s. let p : Part = unwrap_or s (record { slot = 0; number = 0 }) in Bytes (part (unwrap_or (C.bytes_at mid.heap p.slot) []) (REACH * p.number + offset) (length slice))) found
       ∙ ap (λ (b : Option (List ℕ)). Bytes (part (unwrap_or b []) (REACH * p.number + offset) (length slice))) (ap bytes_in there ∙ has)
 
 abbrev WrittenTo : Handles → Handles → ℕ → List ℕ → Type 0

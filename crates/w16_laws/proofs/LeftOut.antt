@@ -38,7 +38,7 @@ module _ (lo hi : ℕ) (xs : List Block) (ids : List ℕ) (h : C.Option ℕ) (lo
     misses = All-from_Each _ left (Each-from (λ x. IsTrue (is_pinned x) → Misses x.at x.size a b) left (λ x m.
         let kept : Member x xs × IsTrue (stays x) = member_filter stays xs x m in
         let same : C.counted_loose h x ≡ x = C.ap (λ v. let y : Block = record x { hold = cond v Loose x.hold } in y) (out x kept.1).1 in
-        C.subst (λ (y : Block). IsTrue (is_pinned y) → Misses y.at y.size a b) same
+        C.subst (λ y. IsTrue (is_pinned y) → Misses y.at y.size a b) same
         (Each-at (λ y. IsTrue (is_pinned y) → Misses y.at y.size a b) (loosened h xs) (Each-from_All _ (loosened h xs) c.misses) (C.counted_loose h x) (member_map (C.counted_loose h) xs x kept.0))));
   }
 

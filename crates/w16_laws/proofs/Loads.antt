@@ -7,7 +7,7 @@ use Rattle.w16_laws.specs.Loading.{CallsKeepWorldsLaw, FillsLaw, BoundAlikeLaw}
 use Rattle.w16_loading.specs.Answers.{told}
 
 pub calls_keep_worlds_law : CallsKeepWorldsLaw
-calls_keep_worlds_law old new command reply is f = subst C.IsLoadingWorld (sym f.2) (handles_world old is _ _ f.0 f.1)
+calls_keep_worlds_law old new command reply is f = subst C.IsLoadingWorld (sym f.2) (handles_world old is command reply f.0 f.1)
 
 -- A load's requests keep what isn't its own.
 pub fills_law : (honest : Type 0) → FillsLaw honest

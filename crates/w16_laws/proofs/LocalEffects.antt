@@ -216,7 +216,7 @@ module _ (old new : World) (name : ℕ) (n : C.LocalObject) (o : Object) (m : K.
   own : (own : ℕ) → ◌≡◌ {A = Option ℕ} (Some own) (Some name) → C.object_named old own ≡ Some n
   own other e = let same : other ≡ name = cc in ap (C.object_named old) same ∙ m.named
 
-  refused : (command : C.LocalCommand) → C.named_by command ≡ Some name → K.is_refused command o ≡ true → C.Answers old command answer new → new ≡ old
+  refused : (command : C.Command C.OfLocals) → C.named_by command ≡ Some name → K.is_refused command o ≡ true → C.Answers old command answer new → new ≡ old
   refused (C.LocalLock name) e r step =
       let pointer : ℕ = near_pointer (heap_of n.heap) n.id in
       left_so old new n o m.there answer (after_lock (heap_of n.heap) n.id) (λ _. pointer) (C.lock_refused pointer) (no_lock (heap_of n.heap) n.id o m.there r)

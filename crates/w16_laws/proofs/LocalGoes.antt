@@ -5,6 +5,7 @@ use Rattle.std.specs.FinMap as finmap
 use Rattle.w16_machine.proofs.Common as C
 use Rattle.std.specs.List.{AllByRecursion as Each}
 use Rattle.w16_laws.specs.LocalHeaps.{IsBegun, NeverBackLaw, BeginsNone, GoneLaw}
+use Rattle.w16_loading.specs.Families.AnyCommand.{any}
 
 -- where there is none there is none afterwards
 module _ (old new : World) (slot : ℕ) (none : finmap.get old.heaps slot ≡ None) where
@@ -22,37 +23,37 @@ module _ (old new : World) (slot : ℕ) (none : finmap.get old.heaps slot ≡ No
     | inr d ↦ ap (λ m. finmap.get m slot) put ∙ C.inserted_other old.heaps at.slot t slot d ∙ none
   ]
 
-  called : (command : C.LocalCommand) (answer : ℕ) → Outcome old command answer new → (finmap.get new.heaps slot ≡ None) ⊎ IsBegun (OfLocals command) (Word answer) new slot
-  called command answer (inl same) = inl (ap (λ (w : World). finmap.get w.heaps slot) same ∙ none)
+  called : (command : C.Command C.OfLocals) (answer : ℕ) → Outcome old command answer new → (finmap.get new.heaps slot ≡ None) ⊎ IsBegun (any OfLocals command) (Word answer) new slot
+  called command answer (inl same) = inl (ap (λ w. finmap.get w.heaps slot) same ∙ none)
   called command answer (inr (inl init)) = elim (C.cases_eq slot init.begun.slot) [
     | inl e ↦ inr (record {
       selector = init.selector;
       start = init.start;
       end = init.end;
-      asked = ap OfLocals init.asked;
+      asked = ap (λ c. (any OfLocals c)) init.asked;
       answered = ap Word init.answered;
       range = init.begun.range;
-      begun = ap (λ (w : World). finmap.get w.heaps slot) init.rest ∙ C.inserted_here old.heaps init.begun.slot (C.new_table init.begun.range) slot e;
+      begun = ap (λ w. finmap.get w.heaps slot) init.rest ∙ C.inserted_here old.heaps init.begun.slot (C.new_table init.begun.range) slot e;
     })
-    | inr d ↦ inl (ap (λ (w : World). finmap.get w.heaps slot) init.rest ∙ C.inserted_other old.heaps init.begun.slot (C.new_table init.begun.range) slot d ∙ none)
+    | inr d ↦ inl (ap (λ w. finmap.get w.heaps slot) init.rest ∙ C.inserted_other old.heaps init.begun.slot (C.new_table init.begun.range) slot d ∙ none)
   ]
-  called command answer (inr (inr (at, c, inl (next, stepped, becomes)))) = inl (put_elsewhere at c becomes.table (ap (λ (w : World). w.heaps) becomes.rest))
-  called command answer (inr (inr (at, c, inr (inl acts)))) = inl (put_elsewhere at c acts.table (ap (λ (w : World). w.heaps) acts.rest))
+  called command answer (inr (inr (at, c, inl (next, stepped, becomes)))) = inl (put_elsewhere at c becomes.table (ap (λ w. w.heaps) becomes.rest))
+  called command answer (inr (inr (at, c, inr (inl acts)))) = inl (put_elsewhere at c acts.table (ap (λ w. w.heaps) acts.rest))
   called command answer (inr (inr (at, c, inr (inr g)))) =
       let handles : Handles = g.grows.lengthens.handles in
       inl (elim (C.cases_eq slot at.slot) [
         | inl e ↦ absurd (unlike at c e)
         | inr d ↦
-            ap (λ (w : World). finmap.get w.heaps slot) g.grows.grown.rest
+            ap (λ w. finmap.get w.heaps slot) g.grows.grown.rest
             ∙ C.inserted_other (finmap.insert (C.left_in handles.heap old.heaps) at.slot (C.longer at g.grows.size g.grows.lengthens.bytes).table) at.slot g.grows.grown.table slot d
             ∙ C.inserted_other (C.left_in handles.heap old.heaps) at.slot (C.longer at g.grows.size g.grows.lengthens.bytes).table slot d
             ∙ left_is handles.heap old.heaps slot ∙ ap (λ p. left_over p (C.bytes_at handles.heap slot)) none
       ])
 
 pub never_back_law : (honest : Type 0) → NeverBackLaw honest
-never_back_law honest format old new (OfLocals (C.DS selector)) C.Done step slot none = inl (ap (λ w. finmap.get w.heaps slot) step ∙ none)
-never_back_law honest format old new (OfLocals command) (Word answer) step slot none = called old new _ none _ _ (outcome old _ _ new step)
-never_back_law honest format old new (OfLocals command) reply step slot none = absurd step
+never_back_law honest format old new (any _ (C.DS selector)) C.Done step slot none = inl (ap (λ w. finmap.get w.heaps slot) step ∙ none)
+never_back_law honest format old new (any OfLocals command) (Word answer) step slot none = called old new _ none _ _ (outcome old _ _ new step)
+never_back_law honest format old new (any OfLocals command) reply step slot none = absurd step
 never_back_law honest format old new command reply step slot none = inl (ap (λ w. finmap.get w.heaps slot) step.1 ∙ left_is new.loading.handles.heap _ slot ∙ ap (λ p. left_over p (C.bytes_at new.loading.handles.heap slot)) none)
 
 pub gone_law : (honest : Type 0) → GoneLaw honest

@@ -40,7 +40,7 @@ module _ (old : Heap) where
           if_ok id (nat_lt 0 o.locks) (Err refusals.Locked) (cond (is_discardable o.kind) (Ok (absent old id)) (Err refusals.NotDiscardable)) tt
           (if_ok id (is_discardable o.kind) (Ok (absent old id)) (Err refusals.NotDiscardable) (C.twice_out id old.order) tt)
 
-  given_up_rest : (command : C.LocalCommand) (id : ℕ) (new : Heap) → IsGivenUp old command id new → Rest id new
+  given_up_rest : (command : C.Command C.OfLocals) (id : ℕ) (new : Heap) → IsGivenUp old command id new → Rest id new
   given_up_rest command id new (inl e) = subst (λ r. IfOk r (Rest id)) e.1 (free_rest id)
   given_up_rest command id new (inr e) = subst (λ r. IfOk r (Rest id)) e (discard_rest id)
 

@@ -10,7 +10,7 @@ use Rattle.w16_laws.specs.LocalHeaps.{only_tells, QueriesLaw, PlacesLaw}
 
 -- Calls that only tell.
 
-told : (old new : World) (command : C.LocalCommand) (answer : ℕ) → only_tells command ≡ true → C.Answers old command answer new → new ≡ old
+told : (old new : World) (command : C.Command C.OfLocals) (answer : ℕ) → only_tells command ≡ true → C.Answers old command answer new → new ≡ old
 told old new (C.LocalSize name) answer tells step = step.1
 told old new (C.LocalFlags name) answer tells step = step.1
 told old new (C.LocalHandle pointer) answer tells step = step.1
@@ -60,15 +60,15 @@ module _ (heap : Heap) (q pointer : ℕ) where
       turn None = same_places heap refl
       turn (Some o) = unless (C.nat_lt 0 o.locks)
 
-  module _ (command : C.LocalCommand) (none : C.asks_for_room command ≡ false) where
+  module _ (command : C.Command C.OfLocals) (none : C.asks_for_room command ≡ false) where
     stepped : (next : Heap) → IsStepped heap command next → Stood next
     stepped next (inl (id, named, altered)) = altered_is heap id Stood (same_places heap refl) (λ new p put places order. same_places new places) next altered
-    stepped next (inr (flags, size, id, t, enters)) = same_places next (ap (λ (h : Heap). h.places) enters.entered)
+    stepped next (inr (flags, size, id, t, enters)) = same_places next (ap (λ h. h.places) enters.entered)
 
     roomed : (answer : ℕ) (next : Heap) → IsRoomed heap command answer next → Stood next
     roomed answer next (inl (asks, made)) = absurd (false≢true (sym none ∙ asks))
     roomed answer next (inr (id, named, inl up)) = subst (λ r. IfOk r Stood) up.1 (freed id)
-    roomed answer next (inr (id, named, inr done)) = fewer_places next id (ap (λ (h : Heap). h.places) (C.discard_absent heap next id done))
+    roomed answer next (inr (id, named, inr done)) = fewer_places next id (ap (λ h. h.places) (C.discard_absent heap next id done))
 
 pub places_law : PlacesLaw
 places_law old new command reply at after q pointer step c e none =

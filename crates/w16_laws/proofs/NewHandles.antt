@@ -33,10 +33,10 @@ module _ (old new : Handles) (handle size flags answer slot : ℕ) (is : C.AreHa
 
   -- its attributes but for the number of its slots
   shared : is_shared new (answer / 8) ≡ is_shared old slot
-  shared = ap (is_shared new) first_is ∙ ap (λ (h : Handles). is_shared h r.first) r.rest ∙ turn (finmap.get old.attributes r.slot) (is.attributed r.slot ∙ ap C.is_some r.named.there) ∙ ap (is_shared old) slot_is
+  shared = ap (is_shared new) first_is ∙ ap (λ h. is_shared h r.first) r.rest ∙ turn (finmap.get old.attributes r.slot) (is.attributed r.slot ∙ ap C.is_some r.named.there) ∙ ap (is_shared old) slot_is
     where
       bit : C.Option Attributes → C.Bool
-      bit p = C.unwrap_or (C.option_map (λ (a : Attributes). a.shared) p) false
+      bit p = C.unwrap_or (C.option_map (λ a. a.shared) p) false
 
       turn : (p : C.Option Attributes) → C.is_some p ≡ true
           → bit (finmap.get (elim p [ Some a ↦ finmap.insert (finmap.remove old.attributes r.slot) r.first (record a { slots = C.slots_for (C.rounded_size r.size) }) | C.None ↦ old.attributes ]) r.first) ≡ bit p
@@ -50,7 +50,7 @@ module _ (old new : Handles) (handle size flags answer slot : ℕ) (is : C.AreHa
   -- the order after, where the object was in it
   placed : r.slot ≢ r.first → C.is_member slot old.heap.order ≡ true → new.heap.order ≡ map (λ q. if q == slot then answer / 8 else q) (without_all gone old.heap.order)
   placed d listed =
-      ap (λ (h : Handles). h.heap.order) r.rest
+      ap (λ h. h.heap.order) r.rest
       ∙ (λ i. (cond {A = C.Heap} (C.ne_eqb r.slot r.first d i) r.heap (record r.heap {
         objects = C.rekeyed r.heap.objects r.slot r.first;
         places = C.rekeyed r.heap.places r.slot r.first;

@@ -9,7 +9,7 @@ use Rattle.w16_laws.specs.CallLaws.{NullLaw, OldHandleLaw}
 pub null_law : NullLaw
 null_law old new handle size flags is step = turn (outcome old new (ReAllocs handle size flags) (Word 0) is step)
   where
-    other : (command : C.HandleCommand) → ReAllocs handle size flags ≡ Calls command → ⊥
+    other : (command : C.Command C.OfHandles) → ReAllocs handle size flags ≡ Calls command → ⊥
     other command e = cc
 
     -- an answered one gives a handle

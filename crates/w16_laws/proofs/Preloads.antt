@@ -84,8 +84,8 @@ module _ (x q : ℕ) where
 
     may_then : MayLose b
     may_then = elim now [
-      | inl e ↦ subst (λ p. IsSomeAnd p (λ (o : Object). (o.kind ≡ Discardable) × (o.locks ≡ 0))) (sym e) (its.2, its.3)
-      | inr e ↦ subst (λ p. IsSomeAnd p (λ (o : Object). (o.kind ≡ Discardable) × (o.locks ≡ 0))) (sym e) (its.2, its.3)
+      | inl e ↦ subst (λ p. IsSomeAnd p (λ o. (o.kind ≡ Discardable) × (o.locks ≡ 0))) (sym e) (its.2, its.3)
+      | inr e ↦ subst (λ p. IsSomeAnd p (λ o. (o.kind ≡ Discardable) × (o.locks ≡ 0))) (sym e) (its.2, its.3)
     ]
 
     none_stays : bytes_at a q ≡ None → bytes_at b q ≡ None
@@ -101,7 +101,7 @@ module _ (x q : ℕ) where
     order_before = (C.discarded a settled_k.0 (Some slot)).order
 
     order_is : b.order ≡ C.with_newest slot settled_k.1 order_before
-    order_is = ap (λ (h : Heap). h.order) settled_k.2.same
+    order_is = ap (λ h. h.order) settled_k.2.same
 
     abbrev rest_before : List ℕ
     rest_before = filter (λ r. not (r == slot)) order_before

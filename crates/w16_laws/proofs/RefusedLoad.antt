@@ -1,10 +1,10 @@
 -- What a refused load leaves.
-use Rattle.w16_loading.proofs.Common.{LoadingWorld, ◌≡◌, with_heap, subst, sym, inl, refl, List, ℕ, ◌⊎◌, ◌≤◌, [], ◌∷◌, inr, Answer, GivesFrom, Fills, Option, InTurn, named, Some, None, ◌∙◌, arith, ap, with_segment, ◌<◌, ◌+◌, Says, false, Heap}
+use Rattle.w16_loading.proofs.Common.{LoadingWorld, ◌≡◌, with_heap, sym, inl, refl, List, ℕ, ◌⊎◌, ◌≤◌, [], ◌∷◌, inr, Answer, GivesFrom, Fills, Option, InTurn, named, Some, None, ◌∙◌, arith, ap, ◌<◌, Says, false, Heap}
 use Rattle.w16_loading.proofs.{RefusedLoad.undone_discards, Answered.loaded_by}
 use Rattle.w16_loading.proofs.Common as C
 use Rattle.std.specs.FinMap as finmap
 use Rattle.w16_loading.specs.declared.FetchFault.TheVariants as faults
-use Rattle.w16_loading.specs.declared.{FetchFault.FetchFault, TheConstants.FIRST_MODULE, TheConstants.MOST_MODULES, TheConstants.MOST_USES}
+use Rattle.w16_loading.specs.declared.{FetchFault.FetchFault, TheConstants.FIRST_MODULE, TheConstants.MOST_USES}
 use Rattle.w16_laws.specs.Loading.{EarlyRefusalLaw, RefusedLoadLaw}
 
 -- what a refusal leaves
@@ -12,7 +12,7 @@ abbrev Leaves : LoadingWorld → LoadingWorld → Type 0
 Leaves old new = C.OnlyDiscards old.handles.heap new.handles.heap × (new ≡ with_heap old new.handles.heap)
 
 same_leaves : (old new : LoadingWorld) → C.IsLoadingWorld old → new ≡ old → Leaves old new
-same_leaves old new is e = subst (Leaves old) (sym e) (record { sound = is.handles.heap; objects = λ q. inl refl; rest = refl }, refl)
+same_leaves old new is e = rw e (record { sound = is.handles.heap; objects = λ q. inl refl; rest = refl }, refl)
 
 -- a load that is answered with a handle of its own isn't refused
 first_handle : (old : LoadingWorld) (handles : List ℕ) → C.All (C.IsFreeModule old.modules) handles → (handles ≡ []) ⊎ (FIRST_MODULE ≤ C.slice_index_or handles 0 0)
@@ -28,29 +28,26 @@ fulfilled answers old is closure answer new f refusal = turn f.failure f.filled 
   where
     turn : (failure : Option C.Failure) → InTurn (GivesFrom Fills answers) (named old closure f.choice).handles.heap (C.fills old closure f.choice) failure f.heap → answer ≡ C.outcome_of failure (C.slice_index_or f.choice.handles 0 0)
         → new ≡ C.left failure (with_heap (named old closure f.choice) f.heap) (C.undone old f.choice f.heap) → Leaves old new
-    turn (Some failure) filled answered after = subst (Leaves old) (sym after) (undone_discards answers old is closure f.choice f.is_choice (Some failure) f.heap filled, refl)
+    turn (Some failure) filled answered after = rw after (undone_discards answers old is closure f.choice f.is_choice (Some failure) f.heap filled, refl)
     turn None filled answered after = elim (first_handle old f.choice.handles f.is_choice.free) [
       | inl e ↦ same_leaves old new is (after ∙ empty e)
-      | inr le ↦ let few = subst C.IsRefusal answered refusal in absurd (omega (arith, le, few))
+      | inr le ↦ let few = rw answered at refusal in absurd (omega (arith, le, few))
     ]
       where
         -- with no handle there is no new module
         none_given : f.choice.handles ≡ [] → C.given closure f.choice ≡ []
-        none_given e = ap (λ hs. C.given_from 0 closure.found hs f.choice.slots) e ∙ nothing_given 0 closure.found f.choice.slots
+        none_given e = rw e (nothing_given 0 closure.found f.choice.slots)
 
         same_heap : f.choice.handles ≡ [] → f.heap ≡ old.handles.heap
-        same_heap e = (subst (λ xs. InTurn (GivesFrom Fills answers) (named old closure f.choice).handles.heap xs None f.heap) (ap (λ gs. C.flat_map (C.fills_of (C.bound old closure f.choice)) gs) (none_given e)) filled).1
-            ∙ ap (λ gs. (C.fold with_segment old (C.segments_of gs)).handles.heap) (none_given e)
+        same_heap e = (rw (none_given e) at filled).1
 
         empty : f.choice.handles ≡ [] → with_heap (named old closure f.choice) f.heap ≡ old
-        empty e = ap (with_heap (named old closure f.choice)) (same_heap e)
-            ∙ ap (λ gs. with_heap (record (C.fold with_segment old (C.segments_of gs)) { modules = C.with_modules (C.bound old closure f.choice) gs old.modules }) old.handles.heap) (none_given e)
+        empty e = rw (same_heap e, none_given e)
 
 -- a handle is no refusal
 not_refused : (old : LoadingWorld) → C.IsLoadingWorld old → (handle : ℕ) (n : C.Named) → finmap.get old.modules handle ≡ Some n → handle < FIRST_MODULE → ⊥
 not_refused old is handle n e few =
-    let number = subst (λ p. C.IfSome p (λ _. (FIRST_MODULE ≤ handle) × (handle < FIRST_MODULE + MOST_MODULES))) e (is.numbers _) in
-    let le = number.0 in omega (arith, few, le)
+    let number = rw e at (is.numbers handle) in omega (arith, number.0)
 
 module _ (old : LoadingWorld) (is : C.IsLoadingWorld old) where
   abbrev Refused : Answer → LoadingWorld → Type 0
@@ -98,15 +95,15 @@ module _ (old : LoadingWorld) where
     where
       turn : (failure : Option C.Failure) → Says number ≡ C.outcome_of failure (C.slice_index_or f.choice.handles 0 0) → InTurn (GivesFrom Fills answers) (named old closure f.choice).handles.heap (C.fills old closure f.choice) failure f.heap → new ≡ old
       turn None e filled = let same : number ≡ C.slice_index_or f.choice.handles 0 0 = cc in elim (first_handle old f.choice.handles f.is_choice.free) [
-        | inl none ↦ let zero : C.slice_index_or f.choice.handles 0 0 ≡ 0 = ap (λ hs. C.slice_index_or hs 0 0) none in absurd (omega (arith, same, zero, some))
-        | inr le ↦ absurd (omega (arith, same, le, few))
+        | inl none ↦ let zero : C.slice_index_or f.choice.handles 0 0 ≡ 0 = rw none in absurd (omega arith)
+        | inr le ↦ absurd (omega arith)
       ]
       turn (Some failure) e filled = by failure.fault e (not_damaged answers never (named old closure f.choice).handles.heap f.heap (C.fills old closure f.choice) (Some failure) filled)
         where
           by : (fault : FetchFault) → Says number ≡ C.refusal_of failure.place fault → is_damaged fault ≡ false → new ≡ old
-          by faults.NoRoom e out = let zero : number ≡ 0 = cc in absurd (omega (arith, zero, some))
+          by faults.NoRoom e out = let zero : number ≡ 0 = cc in absurd (omega arith)
           by faults.Store e out = cc
-          by faults.Damaged e out = absurd (C.false≢true (sym out))
+          by faults.Damaged e out = cc
 
 pub early_refusal_law : (honest : Type 0) → EarlyRefusalLaw honest
 early_refusal_law honest format before after b old new file number truly is f some few =
@@ -116,4 +113,4 @@ early_refusal_law honest format before after b old new file number truly is f so
     (λ closure facts. fulfilled_late old answers (λ fails. let e = fails.2 truly in cc) closure _ new) f number refl some few
   where
     small : (handle n : ℕ) → Says handle ≡ Says n → n < FIRST_MODULE → handle < FIRST_MODULE
-    small handle n e lt = let same : handle ≡ n = cc in omega (arith, same, lt)
+    small handle n e lt = let same : handle ≡ n = cc in omega arith

@@ -2,8 +2,8 @@
 use Rattle.w16_loading.proofs
 use proofs.Common as C
 use Rattle.w16_laws.specs.ModuleEffects as M
-use proofs.Common.{◌≡◌, ◌≢◌, ℕ, ◌+◌, ◌-◌, ◌<◌, ◌≤◌, ◌==◌, ◌&&◌, inl, inr, ◌⊎◌, Bool, true, false, cond, List, length, Option, Some, None, IfSome, IsSomeAnd, is_some, refl, sym, ap, ◌∙◌, subst, arith, IsTrue, Heap, Object, Handles, object_at, is_fixed, handle_of, slot_of_handle}
-use proofs.Common.{selector_of, inserted_here, inserted_other, Resource, Load, LoadingWorld, Reply, Word, Dword, Failed, FetchesFrom, Fills}
+use proofs.Common.{◌≡◌, ◌≢◌, ℕ, ◌+◌, ◌-◌, ◌<◌, ◌≤◌, ◌==◌, ◌&&◌, inl, inr, ◌⊎◌, Bool, true, false, cond, List, length, Option, Some, None, IfSome, IsSomeAnd, is_some, refl, sym, ap, ◌∙◌, arith, IsTrue, Heap, Object, Handles, object_at, is_fixed, handle_of, slot_of_handle}
+use proofs.Common.{selector_of, inserted_here, inserted_other, Resource, Load, LoadingWorld, Reply, Word, Dword, FetchesFrom, Fills}
 use proofs.Stepping.{found_load, resource_load, with_count}
 use proofs.{Cases.resource_cases, Importers.found_passes, Fillings.fetch_outcome, Fillings.filled_object, ResourceWorlds.none_of_place, SparedByUses.named_slot}
 use Rattle.std.proofs.Common.{Result, Ok, Err}
@@ -18,7 +18,11 @@ use Rattle.w16_loading.specs.{declared.FetchFault.FetchFault, declared.TheConsta
 
 -- the handle of an object that is there finds its slot
 finds : (handles : Handles) (slot : ℕ) (o : Object) → object_at handles.heap slot ≡ Some o → slot_of_handle handles (handle_of o.kind slot) ≡ Some slot
-finds handles slot o there = (names_law handles _ slot).0.1 (subst (λ p. IsSomeAnd p (λ x. handle_of o.kind slot ≡ handle_of x.kind slot)) (sym there) refl)
+finds handles slot o there = (names_law handles _ slot).0.1 (rw there refl)
+
+-- a pair's parts
+reply_is : {R : Type 0} {a : R} {w : LoadingWorld} (p : R × LoadingWorld) → ◌≡◌ {A = R × LoadingWorld} (a, w) p → (a ≡ p.0) × (w ≡ p.1)
+reply_is p e = rw (← e) (refl, refl)
 
 -- Loads.
 
@@ -29,25 +33,17 @@ module _ (answers : C.Answers) (old : LoadingWorld) (is : C.IsLoadingWorld old) 
       × (M.IsLoadedAgain old handle place slot new ⊎ M.IsLoadedFirst old handle place slot new))
 
   none : C.AnswersNone old (Word answer) new → Does
-  none (says, same) = let zero : answer ≡ 0 = cc in (
-    ap (λ (w : LoadingWorld). w.modules) same,
-    λ z. (ap (λ (w : LoadingWorld). w.loads) same, ap (λ (w : LoadingWorld). w.handles) same),
-    λ d. absurd (d zero),
-  )
-
-  -- a pair's parts
-  reply_is : (p : Reply × LoadingWorld) → ◌≡◌ {A = Reply × LoadingWorld} (Word answer, new) p → (Word answer ≡ p.0) × (new ≡ p.1)
-  reply_is p e = (ap (λ (x : Reply × LoadingWorld). x.0) e, ap (λ (x : Reply × LoadingWorld). x.1) e)
+  none (says, same) = (rw same, λ z. (rw same, rw same), λ d. absurd (d (cc)))
 
   -- an object of the load
   its_object : (r : Resource) (x : ℕ × Load) → C.resource_at old handle place ≡ Some r → finmap.get old.loads x.0 ≡ Some x.1 → x.1.handle ≡ handle → x.1.place ≡ place → (o : Object) × (object_at old.handles.heap x.0 ≡ Some o) × (o.kind ≡ r.kind)
   its_object r x at there h p = by (object_at old.handles.heap x.0) refl owned.object
     where
       load : C.IsLoad old x.0 x.1
-      load = subst (λ p. IfSome p (C.IsLoad old x.0)) there (is.loads x.0)
+      load = rw there at (is.loads x.0)
 
       owned : C.IsObjectOf old x.0 r.kind (C.rounded_size r.length_in) false
-      owned = subst (λ p. IsSomeAnd p (λ r. C.IsObjectOf old x.0 r.kind (C.rounded_size r.length_in) false)) ((λ i. C.resource_at old (h i) (p i)) ∙ at) load.resource
+      owned = rw (h, p, at) at load.resource
 
       by : (p : Option Object) → object_at old.handles.heap x.0 ≡ p → IsSomeAnd p (λ o. (o.kind ≡ r.kind) × IfSome o.bytes (λ bytes. length bytes ≡ C.rounded_size r.length_in)) → (o : Object) × (object_at old.handles.heap x.0 ≡ Some o) × (o.kind ≡ r.kind)
       by None e h = absurd h
@@ -72,20 +68,19 @@ module _ (answers : C.Answers) (old : LoadingWorld) (is : C.IsLoadingWorld old) 
       by false e = none (reply_is _ e)
       by true e =
           let both = reply_is _ e in
-          let says : answer ≡ handle_of r.kind x.0 = (let f : Word answer ≡ Word (handle_of r.kind x.0) = both.0 in cc) in
+          let says : answer ≡ handle_of r.kind x.0 = cc (both.0) in
           let o : (o : Object) × (object_at old.handles.heap x.0 ≡ Some o) × (o.kind ≡ r.kind) = its_object r x at there h p in
-          let loads : new.loads ≡ finmap.insert old.loads x.0 (record x.1 { loads = x.1.loads + 1 }) = ap (λ (w : LoadingWorld). w.loads) both.1 in
-          let handles : new.handles ≡ old.handles = ap (λ (w : LoadingWorld). w.handles) both.1 in (
-            ap (λ (w : LoadingWorld). w.modules) both.1,
-            λ zero. absurd (some_handle r.kind x.0 (sym says ∙ zero)),
+          let handles : new.handles ≡ old.handles = rw both.1 in (
+            rw both.1,
+            λ zero. absurd (some_handle r.kind x.0 (cc)),
             λ some. (
               x.0,
-              (λ i. slot_of_handle (handles i) (says i)) ∙ ap (λ k. slot_of_handle old.handles (handle_of k x.0)) (sym o.2) ∙ finds old.handles x.0 o.0 o.1,
-              λ q d. ap (λ l. finmap.get l q) loads ∙ inserted_other old.loads x.0 (record x.1 { loads = x.1.loads + 1 }) q d,
+              rw (handles, says, ← o.2) (finds old.handles _ o.0 o.1),
+              λ q d. rw both.1 (inserted_other old.loads x.0 _ q d),
               inl (
                 x.1.loads,
-                there ∙ (λ i. Some (record { handle = h i; place = p i; loads = x.1.loads })),
-                ap (λ l. finmap.get l x.0) loads ∙ inserted_here old.loads x.0 (record x.1 { loads = x.1.loads + 1 }) x.0 refl ∙ (λ i. Some (record { handle = h i; place = p i; loads = x.1.loads + 1 })),
+                rw (← h, ← p) there,
+                rw (both.1, ← h, ← p) (inserted_here old.loads x.0 _ x.0 refl),
                 handles,
               ),
             ),
@@ -109,45 +104,37 @@ module _ (answers : C.Answers) (old : LoadingWorld) (is : C.IsLoadingWorld old) 
   first : (r : Resource) → C.resource_at old handle place ≡ Some r → C.is_too_long r ≡ false → C.load_of old handle place ≡ None → C.LoadsNewResource (FetchesFrom Fills answers) old handle place r (Word answer) new → Does
   first r at short unloaded l = by l.fault l.fetched l.outcome
     where
-      slot : ℕ
-      slot = l.slot
-
-      made : LoadingWorld
-      made = C.with_resource old l.slot handle place r
-
       entered : Object
       entered = record { kind = r.kind; locks = 0; bytes = None }
 
       by : (fault : Option FetchFault) → FetchesFrom Fills answers (C.with_resource old l.slot handle place r) l.slot fault l.next → ◌≡◌ {A = Reply × LoadingWorld} (Word answer, new) (C.resource_outcome fault (handle_of r.kind l.slot) l.next old) → Does
       by (Some NoRoom) f e = none (reply_is _ e)
-      by (Some Store) f e = let g : Word answer ≡ Failed Store = (reply_is _ e).0 in cc
-      by (Some Damaged) f e = let g : Word answer ≡ Failed Damaged = (reply_is _ e).0 in cc
+      by (Some Store) f e = cc ((reply_is _ e).0)
+      by (Some Damaged) f e = cc ((reply_is _ e).0)
       by None f e =
           let both = reply_is (Word (handle_of r.kind l.slot), l.next) e in
-          let says : answer ≡ handle_of r.kind l.slot = (let f : Word answer ≡ Word (handle_of r.kind l.slot) = both.0 in cc) in
+          let says : answer ≡ handle_of r.kind l.slot = cc (both.0) in
           let rest : new ≡ C.with_heap (C.with_resource old l.slot handle place r) l.next.handles.heap = both.1 ∙ f.rest in
-          let loads : new.loads ≡ finmap.insert old.loads l.slot (record { handle = handle; place = place; loads = 1 }) = ap (λ (w : LoadingWorld). w.loads) rest in
-          let before : f.given.3.before ≡ entered = (let g : Some f.given.3.before ≡ Some entered = sym f.given.3.there ∙ inserted_here old.handles.heap.objects l.slot entered l.slot refl in cc) in
-          let object : object_at new.handles.heap l.slot ≡ Some (record entered { bytes = Some f.given.0 }) = ap (λ (w : LoadingWorld). object_at w.handles.heap l.slot) rest
-          ∙ filled_object _ l.slot f.given.0 l.next.handles.heap f.given.3 ∙ ap (λ (o : Object). Some (record o { bytes = Some f.given.0 })) before in
-          let long : length f.given.0 ≡ C.rounded_size r.length_in = subst (λ p. IsSomeAnd p (λ owned. length f.given.0 ≡ owned.size)) (ap C.owned_in (inserted_here old.handles.attributes l.slot (C.attributes_for r) l.slot refl)) f.given.1 in
+          let before : f.given.3.before ≡ entered = cc (sym f.given.3.there ∙ inserted_here old.handles.heap.objects l.slot entered l.slot refl) in
+          let object : object_at new.handles.heap l.slot ≡ Some (record entered { bytes = Some f.given.0 }) = rw rest (filled_object _ l.slot f.given.0 _ f.given.3 ∙ ap (λ (o : Object). Some (record o { bytes = Some f.given.0 })) before) in
+          let long : length f.given.0 ≡ C.rounded_size r.length_in = rw (ap C.owned_in (inserted_here old.handles.attributes l.slot (C.attributes_for r) l.slot refl)) at f.given.1 in
           let m = its_module r at in (
-            ap (λ (w : LoadingWorld). w.modules) rest,
-            λ zero. absurd (some_handle r.kind l.slot (sym says ∙ zero)),
+            rw rest,
+            λ zero. absurd (some_handle r.kind l.slot (cc)),
             λ some. (
               l.slot,
-              ap (slot_of_handle new.handles) says ∙ finds new.handles l.slot (record entered { bytes = Some f.given.0 }) object,
-              λ q d. ap (λ l. finmap.get l q) loads ∙ inserted_other old.loads l.slot (record { handle = handle; place = place; loads = 1 }) q d,
+              rw says (finds new.handles _ (record entered { bytes = Some f.given.0 }) object),
+              λ q d. rw rest (inserted_other old.loads l.slot _ q d),
               inr (
                 none_of_place old is l.slot l.free handle place r at short unloaded,
-                ap (λ s. finmap.get s l.slot) loads ∙ inserted_here old.loads l.slot (record { handle = handle; place = place; loads = 1 }) l.slot refl,
+                rw rest (inserted_here old.loads l.slot _ l.slot refl),
                 l.free,
                 m.0,
                 r,
                 m.1,
                 m.2,
                 m.3,
-                subst (λ p. IsSomeAnd p (λ (o : Object). (o.kind ≡ r.kind) × (o.locks ≡ 0) × IsSomeAnd o.bytes (λ bytes. length bytes ≡ C.rounded_size r.length_in))) (sym object) (refl, refl, long),
+                rw object (refl, refl, long),
               ),
             ),
           )
@@ -208,25 +195,18 @@ module _ (answers : C.Answers) (old : LoadingWorld) (is : C.IsLoadingWorld old) 
           → object_at next.heap slot ≡ Some (record o { locks = cond c o.locks (o.locks + 1) }) → IsLocked world slot o
       locked_so c fixed says less next same object = (
         says,
-        ap (λ (w : LoadingWorld). w.modules) same,
-        ap (λ (w : LoadingWorld). w.loads) same,
+        rw same,
+        rw same,
         less,
-        ap (λ (w : LoadingWorld). object_at w.handles.heap slot) same ∙ object ∙ ap (λ b. Some (record o { locks = cond b o.locks (o.locks + 1) })) (sym fixed),
+        rw (same, fixed) object,
       )
 
-      parts : (p : Reply × LoadingWorld) → ◌≡◌ {A = Reply × LoadingWorld} (Dword answer, new) p → (Dword answer ≡ p.0) × (new ≡ p.1)
-      parts p e = (ap (λ (x : Reply × LoadingWorld). x.0) e, ap (λ (x : Reply × LoadingWorld). x.1) e)
-
-      dword : (n : ℕ) → Dword answer ≡ Dword n → answer ≡ n
-      dword n e = cc
-
       by : (c d : Bool) → is_fixed o.kind ≡ c → (o.locks == 255) ≡ d → ◌≡◌ {A = Reply × LoadingWorld} (Dword answer, new) (printed (outcome world.handles slot o there bytes (lock_if world.handles slot o there bytes true c d))) → IsFull world o ⊎ IsLocked world slot o
-      by true d fixed t e = let both = parts _ e in inr (locked_so true fixed (dword _ both.0) (λ loose. absurd (C.false≢true (sym loose ∙ fixed))) world.handles both.1 there)
-      by false true fixed t e = inl (dword 0 (parts _ e).0, (parts _ e).1, C.eqb-true o.locks 255 t, fixed)
+      by true d fixed t e = let both = reply_is _ e in inr (locked_so true fixed (cc (both.0)) (λ loose. cc) world.handles both.1 there)
+      by false true fixed t e = let both = reply_is _ e in inl (cc (both.0), both.1, C.eqb-true o.locks 255 t, fixed)
       by false false fixed t e =
-          let both = parts _ e in
-          inr (locked_so false fixed (dword _ both.0) (λ loose. grind (arith, few, t)) (record world.handles { heap = counted world.handles slot o there bytes }) both.1
-          (inserted_here world.handles.heap.objects slot (record o { locks = o.locks + 1 }) slot refl))
+          let both = reply_is _ e in
+          inr (locked_so false fixed (cc (both.0)) (λ loose. grind (arith, few, t)) (record world.handles { heap = counted world.handles slot o there bytes }) both.1 (inserted_here world.handles.heap.objects slot _ slot refl))
 
   abbrev Locks : Type 0
   Locks = (new.modules ≡ old.modules) × (new.loads ≡ old.loads) × (answer ≡ 0 → new.handles ≡ old.handles)
@@ -236,7 +216,7 @@ module _ (answers : C.Answers) (old : LoadingWorld) (is : C.IsLoadingWorld old) 
   Fetched slot p = C.MatchOption p ((fault : Option FetchFault) × (next : LoadingWorld) × FetchesFrom Fills answers old slot fault next × ((Dword answer, new) ≡ C.lock_outcome fault handle next)) (λ _. (Dword answer, new) ≡ C.locked old handle)
 
   unlocked : answer ≡ 0 → new ≡ old → Locks
-  unlocked zero same = (ap (λ (w : LoadingWorld). w.modules) same, ap (λ (w : LoadingWorld). w.loads) same, λ z. ap (λ (w : LoadingWorld). w.handles) same, λ d. absurd (d zero))
+  unlocked zero same = (rw same, rw same, λ z. rw same, λ d. absurd (d zero))
 
   module _ (slot : ℕ) (load : Load) (found : slot_of_handle old.handles handle ≡ Some slot) (loaded : finmap.get old.loads slot ≡ Some load) (o : Object) (there : object_at old.handles.heap slot ≡ Some o) where
     -- with these bytes
@@ -251,43 +231,37 @@ module _ (answers : C.Answers) (old : LoadingWorld) (is : C.IsLoadingWorld old) 
         found,
         loaded,
         l.0,
-        subst (λ p. IsSomeAnd p (λ o. (bytes : List ℕ) × IfSome o.bytes (λ b. bytes ≡ b) × (is_fixed o.kind ≡ false → o.locks < 255)
-            × (object_at new.handles.heap slot ≡ Some (record o { locks = cond (is_fixed o.kind) o.locks (o.locks + 1); bytes = Some bytes })))) (sym there) (bytes, same, l.3, l.4),
+        rw there (bytes, same, l.3, l.4),
       ),
     )
 
     counts : (o.locks ≤ 255) × (IsTrue (is_fixed o.kind) → o.locks ≡ 0) × (o.bytes ≡ None → o.locks ≡ 0)
-    counts = subst (λ p. IfSome p (λ o. (o.locks ≤ 255) × (IsTrue (is_fixed o.kind) → o.locks ≡ 0) × (o.bytes ≡ None → o.locks ≡ 0))) there (is.handles.heap.counted slot)
+    counts = rw there at (is.handles.heap.counted slot)
 
     fetched : (fault : Option FetchFault) (next : LoadingWorld) → o.bytes ≡ None → FetchesFrom Fills answers old slot fault next → ◌≡◌ {A = Reply × LoadingWorld} (Dword answer, new) (C.lock_outcome fault handle next) → Locks
-    fetched (Some NoRoom) next none f e =
-        let zero : answer ≡ 0 = (let g : Dword answer ≡ Dword 0 = ap (λ (x : Reply × LoadingWorld). x.0) e in cc) in
-        unlocked zero (ap (λ (x : Reply × LoadingWorld). x.1) e ∙ (fetch_outcome f).0 refl)
-    fetched (Some Store) next none f e = let g : Dword answer ≡ Failed Store = ap (λ (x : Reply × LoadingWorld). x.0) e in cc
-    fetched (Some Damaged) next none f e = let g : Dword answer ≡ Failed Damaged = ap (λ (x : Reply × LoadingWorld). x.0) e in cc
+    fetched (Some NoRoom) next none f e = let both = reply_is _ e in unlocked (cc (both.0)) (both.1 ∙ (fetch_outcome f).0 refl)
+    fetched (Some Store) next none f e = cc ((reply_is _ e).0)
+    fetched (Some Damaged) next none f e = cc ((reply_is _ e).0)
     fetched None next none f e = elim (lock_at next slot (record o { bytes = Some f.given.0 }) object refl counts.0 (finds_next f.rest) e) [
       | inl full ↦ absurd (omega (arith, full.2, counts.2 none))
-      | inr l ↦ locked_once f.given.0 (subst (λ p. IfSome p (λ b. f.given.0 ≡ b)) (sym none) tt) next (ap (λ (w : LoadingWorld). w.modules) f.rest) (ap (λ (w : LoadingWorld). w.loads) f.rest) l
+      | inr l ↦ locked_once f.given.0 (rw none tt) next (rw f.rest) (rw f.rest) l
     ]
       where
         before : f.given.3.before ≡ o
-        before = let g : Some f.given.3.before ≡ Some o = sym f.given.3.there ∙ there in cc
+        before = cc (sym f.given.3.there ∙ there)
 
         object : object_at next.handles.heap slot ≡ Some (record o { bytes = Some f.given.0 })
         object = filled_object old.handles.heap slot f.given.0 next.handles.heap f.given.3 ∙ ap (λ (x : Object). Some (record x { bytes = Some f.given.0 })) before
 
-        names_it : IsSomeAnd (object_at old.handles.heap slot) (λ x. handle ≡ handle_of x.kind slot)
-        names_it = (names_law old.handles handle slot).0.0 found
-
         finds_next : next ≡ C.with_heap old next.handles.heap → slot_of_handle next.handles handle ≡ Some slot
-        finds_next rest = (names_law next.handles handle slot).0.1 (subst (λ p. IsSomeAnd p (λ x. handle ≡ handle_of x.kind slot)) (sym object) (subst (λ p. IsSomeAnd p (λ x. handle ≡ handle_of x.kind slot)) there names_it))
+        finds_next rest = (names_law next.handles handle slot).0.1 (rw object (rw there at ((names_law old.handles handle slot).0.0 found)))
 
     by_bytes : (p : Option (List ℕ)) → o.bytes ≡ p
         → Fetched slot p → Locks
     by_bytes None e f = fetched f.0 f.1 e f.2 f.3
     by_bytes (Some bytes) e f = elim (lock_at old slot o there (ap is_some e) counts.0 found f) [
       | inl full ↦ unlocked full.0 full.1
-      | inr l ↦ locked_once bytes (subst (λ p. IfSome p (λ b. bytes ≡ b)) (sym e) refl) old refl refl (subst (λ (x : Object). IsLocked old slot x) (λ i. record o { bytes = e i }) l)
+      | inr l ↦ locked_once bytes (rw e refl) old refl refl (rw e at l)
     ]
 
   locks : C.LocksResource (FetchesFrom Fills answers) old handle (Dword answer) new → Locks
@@ -299,22 +273,21 @@ module _ (answers : C.Answers) (old : LoadingWorld) (is : C.IsLoadingWorld old) 
       by_object x e (Some o) at h f = by_bytes x.0 x.1 (named_slot old handle x e) (resource_load old handle x e) o at o.bytes refl f
 
       by_slot : (p : Option (ℕ × Load)) → C.slot_of_resource old handle ≡ p → C.MatchOption p ((◌≡◌ {A = Reply} (Dword answer) (Dword 0)) × (new ≡ old)) (λ x. Fetched x.0 (C.bytes_at old.handles.heap x.0)) → Locks
-      by_slot None e f = unlocked (let g : Dword answer ≡ Dword 0 = f.0 in cc) f.1
+      by_slot None e f = unlocked (cc (f.0)) f.1
       by_slot (Some x) e f = by_object x e (object_at old.handles.heap x.0) refl ((names_law old.handles handle x.0).0.0 (named_slot old handle x e)) f
 
   -- what has bytes is answered, unless its count is full
   answered : (slot : ℕ) (load : Load) (o : Object) → slot_of_handle old.handles handle ≡ Some slot → finmap.get old.loads slot ≡ Some load → object_at old.handles.heap slot ≡ Some o → is_some o.bytes ≡ true → (is_fixed o.kind ≡ true) ⊎ (o.locks < 255)
       → C.LocksResource (FetchesFrom Fills answers) old handle (Dword answer) new → answer ≢ 0
-  answered slot load o found loaded there bytes few step = by o.bytes bytes (subst (Fetched slot) (ap C.bytes_in there)
-      (subst (λ p. C.MatchOption p ((◌≡◌ {A = Reply} (Dword answer) (Dword 0)) × (new ≡ old)) (λ x. Fetched x.0 (C.bytes_at old.handles.heap x.0))) is_it step))
+  answered slot load o found loaded there bytes few step = by o.bytes bytes (rw (is_it, ap C.bytes_in there) at step)
     where
       is_it : C.slot_of_resource old handle ≡ Some (slot, load)
-      is_it = ap (λ p. elim p as (λ _. Option (ℕ × Load)) [ None ↦ None | Some s ↦ C.option_map {T = Load} {U = ℕ × Load} (λ l. (s, l)) (finmap.get old.loads s) ]) found ∙ ap (C.option_map {T = Load} {U = ℕ × Load} (λ l. (slot, l))) loaded
+      is_it = rw (found, loaded, C.slot_of_resource)
 
       by : (p : Option (List ℕ)) → is_some p ≡ true → Fetched slot p → answer ≢ 0
-      by None t f zero = C.false≢true t
+      by None t f zero = cc
       by (Some b) t f zero = elim (lock_at old slot o there bytes (counts slot load found loaded o there).0 found f) [
-        | inl full ↦ elim few [ inl fixed ↦ C.false≢true (sym full.3 ∙ fixed) | inr lt ↦ omega (arith, full.2, lt) ]
+        | inl full ↦ elim few [ inl fixed ↦ cc (full.3) | inr lt ↦ omega (arith, full.2, lt) ]
         | inr l ↦ some_pointer slot (sym l.0 ∙ zero)
       ]
 

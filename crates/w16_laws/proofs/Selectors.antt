@@ -24,18 +24,18 @@ module _ (old : Handles) (is : AreHandles old) (slot k : ℕ) (below : k < slots
   module _ (o : Object) (there : object_at old.heap slot ≡ Some o) where
     handle : global_handle old (selector_of (slot + k)) ≡ dword_of (selector_of (slot + k)) (handle_of o.kind slot)
     handle =
-        ap (λ p. elim p [ None ↦ 0 | Some p ↦ unwrap_or (option_map (λ (o : Object). dword_of (selector_of (slot + k)) (handle_of o.kind p.slot)) (object_at old.heap p.slot)) 0 ]) part_is
-        ∙ ap (λ (p : Option Object). unwrap_or (option_map (λ (o : Object). dword_of (selector_of (slot + k)) (handle_of o.kind slot)) p) 0) there
+        ap (λ p. elim p [ None ↦ 0 | Some p ↦ unwrap_or (option_map (λ o. dword_of (selector_of (slot + k)) (handle_of o.kind p.slot)) (object_at old.heap p.slot)) 0 ]) part_is
+        ∙ ap (λ p. unwrap_or (option_map (λ o. dword_of (selector_of (slot + k)) (handle_of o.kind slot)) p) 0) there
 
     base : (at : ℕ) → finmap.get old.heap.places slot ≡ Some at → selector_base old (selector_of (slot + k)) ≡ at + 65536 * k
     base at stands =
         ap (λ p. elim p [ None ↦ 0 | Some p ↦ unwrap_or (option_map (λ at. at + REACH * p.number) (finmap.get old.heap.places p.slot)) 0 ]) part_is
-        ∙ ap (λ (p : Option ℕ). unwrap_or (option_map (λ at. at + 65536 * k) p) 0) stands
+        ∙ ap (λ p. unwrap_or (option_map (λ at. at + 65536 * k) p) 0) stands
 
     limit : selector_limit old (selector_of (slot + k)) ≡ unwrap_or (option_map (λ bytes. min 65536 (length {A = ℕ} bytes - 65536 * k) - 1) o.bytes) 0
     limit =
         ap (λ p. elim p [ None ↦ 0 | Some p ↦ unwrap_or (option_map (λ bytes. reached (length bytes) p - 1) (bytes_at old.heap p.slot)) 0 ]) part_is
-        ∙ ap (λ (p : Option Object). unwrap_or (option_map (λ bytes. min 65536 (length {A = ℕ} bytes - 65536 * k) - 1) (bytes_in p)) 0) there
+        ∙ ap (λ p. unwrap_or (option_map (λ bytes. min 65536 (length {A = ℕ} bytes - 65536 * k) - 1) (bytes_in p)) 0) there
 
 -- an answer is what is asked
 told : (value answer : ℕ) (old new : Handles) → Gives (Dword value, old) (Dword answer) new → answer ≡ value

@@ -6,10 +6,11 @@ use specs.Heap.{Object, object_at, bytes_at, is_fixed, is_discardable}
 use specs.Handles.{Handles, Part, part_of_selector, selector_of, selector_in, offset_in, far_pointer}
 use specs.Calls.{Answer, HandleStep, has_flag}
 use specs.Calls.Answer.{Word, Dword}
-use specs.Calls.HandleCommand.{GlobalFree, GlobalLock, GlobalUnlock}
+use Rattle.w16_model.specs.Commands.{Command}
+use Rattle.w16_model.specs.Commands.Family.{OfFar}
+use Rattle.w16_model.specs.Commands.Command.{GlobalFree, GlobalLock, GlobalUnlock, Read, Write, Fill}
 use specs.Resizes.{GlobalReAllocs, kind_modified}
-use specs.Far.FarCommand.{Read, Write, Fill}
-use specs.{declared.FarFault.FarFault, Owned.owns, Owned.refuses_write, Outcomes.IsNamed, Far.FarCommand, Far.FarAnswer, Law.FarStep, Far.FarAnswer.Fault, Far.pointer_in, Law.AreHandles}
+use specs.{declared.FarFault.FarFault, Owned.owns, Owned.refuses_write, Outcomes.IsNamed, Far.FarAnswer, Law.FarStep, Far.FarAnswer.Fault, Far.pointer_in, Law.AreHandles}
 
 -- a lock of an object that has bytes and isn't fixed is counted, while fewer than 255 are
 abbrev pub LockLaw : Type 0
@@ -37,18 +38,18 @@ DiscardLaw = (old new : Handles) (handle slot flags : ℕ) (o : Object) (answer 
     → is_discardable o.kind ≡ true → o.locks ≡ 0 → GlobalReAllocs old handle 0 flags answer new → (object_at new.heap slot ≡ Some (record o { bytes = None })) × (answer ≡ handle)
 
 -- how many bytes an access asks for, and whether it writes
-abbrev pub count_in : FarCommand → ℕ
+abbrev pub count_in : Command OfFar → ℕ
 count_in (Read pointer count) = count
 count_in (Write pointer bytes) = length bytes
 count_in (Fill pointer count byte) = count
 
-abbrev pub writes : FarCommand → Bool
+abbrev pub writes : Command OfFar → Bool
 writes (Read pointer count) = false
 writes (Write pointer bytes) = true
 writes (Fill pointer count byte) = true
 
 -- an access to bytes that are there, and that the selector reaches, is answered, a write where the object may be written
 abbrev pub AnsweredLaw : Type 0
-AnsweredLaw = (old new : Handles) (command : FarCommand) (answer : FarAnswer) (p : Part) (bytes : List ℕ) → part_of_selector old (selector_in (pointer_in command)) ≡ Some p → bytes_at old.heap p.slot ≡ Some bytes
+AnsweredLaw = (old new : Handles) (command : Command OfFar) (answer : FarAnswer) (p : Part) (bytes : List ℕ) → part_of_selector old (selector_in (pointer_in command)) ≡ Some p → bytes_at old.heap p.slot ≡ Some bytes
     → offset_in (pointer_in command) + count_in command ≤ REACH → REACH * p.number + (offset_in (pointer_in command) + count_in command) ≤ length bytes → (writes command ≡ true → refuses_write old (selector_in (pointer_in command)) ≡ false)
     → FarStep old command answer new → (fault : FarFault) → answer ≢ Fault fault

@@ -2,8 +2,7 @@
 -- laws says what the definitions of the calls say: each counts, lists and compares once more.
 use Rattle.std.specs.Prelude.{◌==◌, ◌≡◌, ◌≢◌, ℕ, ◌<◌, ◌↔◌, Bool, true, false, if◌then◌else◌, List, ◌∷◌, length, sum_by, AllPairs, Some, None, is_some, option_map, unwrap_or, ◌/◌, map, ◌⊎◌, not}
 use Rattle.w16_model.specs
-use specs.Calls.HandleCommand.{GlobalAlloc, GlobalLock, GlobalLRUNewest, GlobalLRUOldest, GlobalCompact}
-use specs.Far.FarCommand.{Read, Write}
+use Rattle.w16_model.specs.Commands.Command.{GlobalAlloc, GlobalLock, GlobalCompact, GlobalLRUNewest, GlobalLRUOldest, Read, Write}
 use specs.Calls.{Answer, HandleStep, AnswersAlloc, rounded_size, is_shared, has_flag}
 use specs.CallLaws.{IsAbout, next_slot, may_change, KeepsContents, IsNewestOf, OnlyLeave}
 use specs.{Heap.Heap, Heap.Object, Heap.object_at, Heap.bytes_at, Heap.is_in_order, Handles.Handles, Handles.slot_of_handle, Handles.slots_for, Far.FarAnswer.Bytes, Far.FarAnswer.Done, Outcomes.Call, Outcomes.CallStep, Outcomes.counts_moved, Outcomes.Call.Calls, Outcomes.Call.ReAllocs}

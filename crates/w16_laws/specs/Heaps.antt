@@ -5,9 +5,11 @@ use specs.declared.TheConstants.{FIRST_SLOT, MOST_SLOTS, GRAIN, REACH, LARGEST_S
 use specs.Gap.{room, hole_after, loose_bytes, block_end, IsHole, ArePlaced, IsLaid, is_pinned, is_loose, begins_in, Misses, IsClear}
 use specs.Discards.{room_for, eligible, is_member, is_about, snapshot}
 use specs.Handles.{Handles, dword_of, slots_at, owner_of, handle_of, selector_of}
-use specs.Calls.HandleCommand.{GetSelectorBase, GetSelectorLimit, GlobalHandle}
+use Rattle.w16_model.specs.Commands.{Command}
+use Rattle.w16_model.specs.Commands.Family.{OfFar}
+use Rattle.w16_model.specs.Commands.Command.{GlobalHandle, GetSelectorBase, GetSelectorLimit}
 use specs.Law.{AreHandles, IsFarCommand, FarStep, holes, HoleIsLongest}
-use specs.{Arrangement.IsGap, Heap.Heap, Heap.Object, Heap.object_at, Request.discarded, Request.snapshot_of, Calls.HandleStep, Calls.IsRefusedAlloc, Calls.AnswersAlloc, Far.FarCommand, Far.FarAnswer, declared.Block.Block, Calls.Answer.Dword, Reallocation.loosened}
+use specs.{Arrangement.IsGap, Heap.Heap, Heap.Object, Heap.object_at, Request.discarded, Request.snapshot_of, Calls.HandleStep, Calls.IsRefusedAlloc, Calls.AnswersAlloc, Far.FarAnswer, declared.Block.Block, Calls.Answer.Dword, Reallocation.loosened}
 use Rattle.std.specs.FinMap as finmap
 
 -- The figures.
@@ -86,7 +88,7 @@ SelectorsLaw = (old new : Handles) (slot k answer : ℕ) (o : Object) → AreHan
 
 -- each far access keeps what holds of handles
 abbrev pub FarLaw : Type 0
-FarLaw = (old new : Handles) (command : FarCommand) (answer : FarAnswer) → AreHandles old → IsFarCommand command → FarStep old command answer new → AreHandles new
+FarLaw = (old new : Handles) (command : Command OfFar) (answer : FarAnswer) → AreHandles old → IsFarCommand command → FarStep old command answer new → AreHandles new
 
 -- Room with an object left out.
 

@@ -1,7 +1,10 @@
 -- The laws of files, loads, fetches and uses that end on which nothing stands.
 use Rattle.std.specs.Prelude.{◌≡◌, ◌≢◌, ℕ, ◌-◌, ◌<◌, ◌≤◌, ◌⊎◌, Bool, true, List, length, Option, Some, None, ◌↔◌}
 use Rattle.std.specs.{List.AllByRecursion}
-use Rattle.w16_model.specs.{Heap.Heap, Heap.IsHeap, Heap.bytes_at, CallLaws.IsKeptOrDiscarded, Calls.HandleCommand, Law.KeepsOthers}
+use Rattle.w16_model.specs.{Heap.Heap, Heap.IsHeap, Heap.bytes_at, CallLaws.IsKeptOrDiscarded, Law.KeepsOthers}
+use Rattle.w16_model.specs.Commands.{Command}
+use Rattle.w16_loading.specs.Families.{AnyCommand}
+use Rattle.w16_model.specs.Commands.Family.{OfHandles}
 use Rattle.w16_loading.specs
 use specs.declared.TheConstants.{FIRST_MODULE, LARGEST_OWNED, MOST_MODULES, MOST_USES}
 use specs.Modules.{with_heap, LoadingWorld, Module, value_of, IsSegmentOf, module_at, importers}
@@ -9,7 +12,7 @@ use specs.Closure.{Around, Closure, Found, around}
 use specs.Naming.{Choice, AreSlots, free_slots, segments_in, given, with_modules, unbound, bound}
 use specs.Answers.{ClosesFrom, GivesFrom, StepOver, told, LoadsFrom}
 use specs.Law.{is_code, FetchesOver, IsLoadingWorld, CodeIsItsFiles, OnlyDiscards, IsRefusal}
-use specs.{File.Saying, File.Format, File.Target, Fill.Fills, Fill.Filling, Fill.Failure, Fill.InTurn, Load.Answer.Says, Families.Command, Families.HandleStep, declared.FetchFault.FetchFault, Refusals.OrRefused, Load.Answer, Replies.Reply, Free.Go, Free.Frees}
+use specs.{File.Saying, File.Format, File.Target, Fill.Fills, Fill.Filling, Fill.Failure, Fill.InTurn, Load.Answer.Says, Families.HandleStep, declared.FetchFault.FetchFault, Refusals.OrRefused, Load.Answer, Replies.Reply, Free.Go, Free.Frees}
 use Rattle.w16_laws.specs.Closing.{Closes}
 use Rattle.std.specs.FinMap as finmap
 use Rattle.w16_loading.specs.declared.FetchFault.TheVariants as faults
@@ -27,12 +30,12 @@ pub record AreFigures : Type 0 where
 
 -- Calls on handles keep what holds of every world: what a module owns keeps its kind and its size, whatever is moved or discarded.
 abbrev pub CallsKeepWorldsLaw : Type 0
-CallsKeepWorldsLaw = (old new : LoadingWorld) (command : HandleCommand) (reply : Reply) → IsLoadingWorld old → HandleStep old command reply new
+CallsKeepWorldsLaw = (old new : LoadingWorld) (command : Command OfHandles) (reply : Reply) → IsLoadingWorld old → HandleStep old command reply new
     → IsLoadingWorld new
 
 -- what was bound at load stays until the module goes
 abbrev pub BoundOnceLaw : (honest : Type 0) → Type 0
-BoundOnceLaw honest = (format : Format) (old new : LoadingWorld) (command : Command) (reply : Reply) → StepOver honest format old command reply new
+BoundOnceLaw honest = (format : Format) (old new : LoadingWorld) (command : AnyCommand) (reply : Reply) → StepOver honest format old command reply new
     → (handle : ℕ) (m n : Module) → module_at old.modules handle ≡ Some m → module_at new.modules handle ≡ Some n → (n.values ≡ m.values) × (n.slots ≡ m.slots) × (n.imports ≡ m.imports)
 
 -- the files decide which modules a load finds: one outcome

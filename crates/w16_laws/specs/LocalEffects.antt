@@ -6,8 +6,9 @@ use Rattle.w16_loading.specs.{Replies.Reply, Replies.Reply.Word}
 use specs.declared.local.TheConstants.{LMEM_MOVEABLE, LMEM_MODIFY}
 use specs.Local.{LocalObject, heap_of, object_named}
 use specs.LocalCalls.{LocalStep, moveable_or_discardable}
-use Rattle.w16_loading.specs.Families.{LocalCommand}
-use Rattle.w16_loading.specs.Families.LocalCommand.{LocalReAlloc, LocalDiscard, LocalFree, LocalLock, LocalUnlock}
+use Rattle.w16_model.specs.Commands.{Command}
+use Rattle.w16_model.specs.Commands.Family.{OfLocals}
+use Rattle.w16_model.specs.Commands.Command.{LocalReAlloc, LocalDiscard, LocalFree, LocalLock, LocalUnlock}
 use specs.{World.World, LocalLaw.named_by, LocalFewest.Left, Law.AreLocalHeaps}
 use Rattle.std.specs.FinMap as finmap
 
@@ -47,12 +48,12 @@ ModifyLaw = (old new : World) (name size flags : ℕ) (n : LocalObject) (o : Obj
     → LocalStep old (LocalReAlloc name size flags) reply new → Ends new n (Some (record o { kind = moveable_or_discardable flags })) × (reply ≡ Word name)
 
 -- the calls that ask for a discard: LocalDiscard, and a size of 0 with LMEM_MOVEABLE
-abbrev pub AsksDiscard : ℕ → LocalCommand → Type 0
+abbrev pub AsksDiscard : ℕ → Command OfLocals → Type 0
 AsksDiscard name command = (command ≡ LocalDiscard name) ⊎ ((flags : ℕ) × (has_flag flags LMEM_MODIFY ≡ false) × (has_flag flags LMEM_MOVEABLE ≡ true) × (command ≡ LocalReAlloc name 0 flags))
 
 -- a discardable object that isn't locked loses its bytes to them
 abbrev pub DiscardLaw : Type 0
-DiscardLaw = (old new : World) (name : ℕ) (command : LocalCommand) (n : LocalObject) (o : Object) (reply : Reply) → IsLocalNamed old name n o → AsksDiscard name command → is_discardable o.kind ≡ true → o.locks ≡ 0
+DiscardLaw = (old new : World) (name : ℕ) (command : Command OfLocals) (n : LocalObject) (o : Object) (reply : Reply) → IsLocalNamed old name n o → AsksDiscard name command → is_discardable o.kind ≡ true → o.locks ≡ 0
     → LocalStep old command reply new → Ends new n (Some (record o { bytes = None })) × (reply ≡ Word name)
 
 -- What is refused.
@@ -63,7 +64,7 @@ discard_is_refused o = nat_lt 0 o.locks || not (is_discardable o.kind)
 
 -- a lock of one that is absent, fixed or has 255 locks; an unlock or a change of kind of a fixed one; the freeing of a locked one; and a size
 -- of 0 without LMEM_MOVEABLE
-abbrev pub is_refused : LocalCommand → Object → Bool
+abbrev pub is_refused : Command OfLocals → Object → Bool
 is_refused (LocalLock name) o = not (is_some o.bytes) || is_fixed o.kind || o.locks == 255
 is_refused (LocalUnlock name) o = is_fixed o.kind
 is_refused (LocalFree name) o = nat_lt 0 o.locks
@@ -73,5 +74,5 @@ is_refused command o = false
 
 -- a call that is refused of the object that it names changes nothing
 abbrev pub RefusedLaw : Type 0
-RefusedLaw = (old new : World) (command : LocalCommand) (reply : Reply) (name : ℕ) (n : LocalObject) (o : Object) → named_by command ≡ Some name → IsLocalNamed old name n o → is_refused command o ≡ true
+RefusedLaw = (old new : World) (command : Command OfLocals) (reply : Reply) (name : ℕ) (n : LocalObject) (o : Object) → named_by command ≡ Some name → IsLocalNamed old name n o → is_refused command o ≡ true
     → LocalStep old command reply new → new ≡ old

@@ -1,7 +1,7 @@
 //! The laws of steps and runs of the whole machine. Each function does nothing: its contract is the law.
 ghost use Rattle.w16_laws.specs.Runs.{RunSparesLaw, FewestLaw, RunFilesLaw, RunWorldLaw};
 ghost use Rattle.w16_machine.specs.Bystanders.{StepSparesLaw};
-ghost use Rattle.w16_machine.specs.{Law.ApartLaw, Law.EmptyLaw, Law.FilesLaw, Law.WorldLaw};
+ghost use Rattle.w16_machine.specs.{Law.ApartLaw, Law.EmptyLaw, Law.FilesLaw, Law.WorldLaw, Rows.ReplyKindLaw};
 
 use w16_store::Store;
 
@@ -21,6 +21,11 @@ pub fn steps_keep_worlds<S: Store>()
 pub fn runs_keep_worlds<S: Store>()
     ensures worlds { RunWorldLaw S.is_honest }
     ensures files { RunFilesLaw S.is_honest }
+{}
+
+/// Each step's reply is of the kind that the table of the commands has for its command, whatever the store answers.
+pub fn replies_are_of_their_kinds<S: Store>()
+    ensures { ReplyKindLaw S.is_honest }
 {}
 
 /// In no world do two objects share a byte, neither two of the global heap nor two of a local one.

@@ -2,7 +2,8 @@
 use Rattle.w16_loading.proofs
 use proofs.Common as C
 use proofs.Common.{◌≡◌, ℕ, zero, suc, ◌<◌, inl, inr, ◌⊎◌, Bool, true, false, cond, ◌==◌, List, [], ◌∷◌, length, Option, Some, None, MatchResult, Ok, Err, refl, sym, ap, ◌∙◌, subst, Heap, FIRST_MODULE, FetchFault, Resource, LoadingWorld, Load, LoadRefusal, OrRefused, refusal_number, refused_with}
-use proofs.Common.{Named, Reply, Fills, Closure, Reading, around, begun, dll, with_bound, meant, Refused, Meant, Read, There, New, named, fills, Answer, Fulfils, used_again, load_of, ModuleCommand, ResourceCommand, OfFar, IsRefusal, Loaded, Module, MOST_USES, Says, after_use, not}
+use proofs.Common.{Named, Reply, Fills, Closure, Reading, around, begun, dll, with_bound, meant, Refused, Meant, Read, There, New, named, fills, Answer, Fulfils, used_again, load_of, OfFar, IsRefusal, Loaded, Module, MOST_USES, Says, after_use, not}
+use Rattle.w16_model.specs.Commands.{Command}
 use proofs.Common.{◌&&◌}
 use proofs.ClosureFacts.{IsClosure, began, bound_more, found_more}
 use proofs.Cases.{IsLoadable, bool_as, option_as}
@@ -13,6 +14,7 @@ use Rattle.w16_loading.specs.Answers.{Answers, ClosesFrom, GivesFrom, LoadsFileF
 use Rattle.std.specs.FinMap as finmap
 use Rattle.w16_loading.specs.declared.FetchFault.TheVariants as faults
 use Rattle.w16_loading.specs.declared.LoadRefusal.TheVariants as refusals
+use Rattle.w16_loading.specs.Families.AnyCommand.{any}
 
 -- A family's step by some fetches and loads is one by others, where these are those.
 
@@ -36,12 +38,12 @@ module _ (F G : C.Fetching) (L M : C.Loading) (old new : LoadingWorld) (reply : 
         by_load r at None e (inr f) = inr (record { slot = f.slot; free = f.free; fault = f.fault; next = f.next; fetched = made handle place f.slot r f.free at e f.fault f.next f.fetched; outcome = f.outcome })
         by_load r at (Some x) e f = f
 
-    pub turned : (command : C.Command) → C.FamilyStep F L old command reply new → C.FamilyStep G M old command reply new
-    turned (OfFar command) f = accesses (access_of command) (C.selector_in (C.pointer_in command)) f
-    turned (C.OfModules (ModuleCommand.LoadModule file)) f = (f.0, f.1, load true file f.0 f.2)
-    turned (C.OfModules (ModuleCommand.LoadLibrary file)) f = (f.0, f.1, load false file f.0 f.2)
-    turned (C.OfResources (ResourceCommand.LoadResource handle place)) f = makes handle place f
-    turned (C.OfResources (ResourceCommand.LockResource handle)) f = locks handle f
+    pub turned : (command : C.AnyCommand) → C.FamilyStep F L old command reply new → C.FamilyStep G M old command reply new
+    turned (any OfFar command) f = accesses (access_of command) (C.selector_in (C.pointer_in command)) f
+    turned (any _ (Command.LoadModule file)) f = (f.0, f.1, load true file f.0 f.2)
+    turned (any _ (Command.LoadLibrary file)) f = (f.0, f.1, load false file f.0 f.2)
+    turned (any _ (Command.LoadResource handle place)) f = makes handle place f
+    turned (any _ (Command.LockResource handle)) f = locks handle f
     turned other f = f
 
 -- One way to give bytes as another, in a load.

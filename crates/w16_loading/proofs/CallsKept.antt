@@ -83,7 +83,7 @@ module _ (old : C.LoadingWorld) (is : IsLoadingWorld old) where
         owned (Some o) t = refl
 
   -- by what is printed of them
-  module _ (command : C.HandleCommand) (reply : Reply) (next : Handles) (step : C.HandleReplies old.handles command reply next) where
+  module _ (command : C.Command C.OfHandles) (reply : Reply) (next : Handles) (step : C.HandleReplies old.handles command reply next) where
     pub answered : (answer : Answer) × CallStep old.handles (Calls command) answer next
     answered = some_of (λ answer. CallStep old.handles (Calls command) answer next) (C.answer_in reply) step
 
@@ -96,11 +96,11 @@ module _ (old : C.LoadingWorld) (is : IsLoadingWorld old) where
     pub handles_code : (format : Format) → KeepsCode format old (record old { handles = next })
     handles_code = call_code (Calls command) answered.0 next answered.1
 
-  module _ (command : C.ResizeCommand) (reply : Reply) (next : Handles) (step : C.ResizeReplies old.handles command reply next) where
+  module _ (command : C.Command C.OfResizes) (reply : Reply) (next : Handles) (step : C.ResizeReplies old.handles command reply next) where
     resized : (call : Call) × (answer : Answer) × CallStep old.handles call answer next
     resized = let s : (answer : Answer) × ResizeStep old.handles command answer next = some_of (λ answer. ResizeStep old.handles command answer next) (C.answer_in reply) step in by command s.0 s.1
       where
-        by : (command : C.ResizeCommand) (answer : Answer) → ResizeStep old.handles command answer next → (call : Call) × (answer : Answer) × CallStep old.handles call answer next
+        by : (command : C.Command C.OfResizes) (answer : Answer) → ResizeStep old.handles command answer next → (call : Call) × (answer : Answer) × CallStep old.handles call answer next
         by (GlobalReAlloc handle size flags) (Word answer) step = (ReAllocs handle size flags, Word answer, step)
         by (GlobalDiscard handle) (Word answer) step = (ReAllocs handle 0 C.GMEM_MOVEABLE, Word answer, step)
         by (GlobalReAlloc handle size flags) (Dword answer) step = absurd step

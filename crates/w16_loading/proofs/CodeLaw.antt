@@ -50,4 +50,4 @@ pub code_law : (honest : Type 0) → C.CodeLaw honest
 code_law honest format old new command reply truly is good step =
     let answers = told honest format old.files old.failures new.failures in
     counted _ new old.failures (family (FetchesFrom _ _) (LoadsFrom Fills answers) (λ slice. Unit {0}) old (IsOfFiles _)
-    (parts _ truly _ old is good _ _) (record new { failures = old.failures }) reply command (nothing_asked _) step.step)
+    (parts _ truly _ old is good _ _) (record new { failures = old.failures }) reply command (nothing_asked command) step.step)

@@ -13,10 +13,11 @@ pub use Rattle.w16_loading.specs.Bystanders.{IsFreedResource, IsReleased, IsStep
 pub use Rattle.w16_loading.specs.Closure.{Around, Closure, Found, Reading, Referent, are_sound, around, begun, dll, meant, with_bound, with_found}
 pub use Rattle.w16_loading.specs.Closure.Reading.{Meant, Read, Refused}
 pub use Rattle.w16_loading.specs.Closure.Referent.{New, There}
-pub use Rattle.w16_loading.specs.Families.{AddsBuiltIn, FamilyStep, FarStep, GivesBuiltIn, Loading, Command, ModuleCommand, ModuleStep, ResourceCommand, ResourceStep, built_in}
-pub use Rattle.w16_loading.specs.Families.Command.{OfFar, OfHandles, OfLocals, OfModules, OfResizes, OfResources}
-pub use Rattle.w16_loading.specs.Families.ModuleCommand.{Builtin, FreeLibrary, FreeModule, GetModuleHandle, GetModuleUsage, GetProcAddress, LoadLibrary, LoadModule}
-pub use Rattle.w16_loading.specs.Families.ResourceCommand.{FindResource, FreeResource, LoadResource, LockResource, SizeofResource}
+pub use Rattle.w16_loading.specs.Families.{AddsBuiltIn, FamilyStep, FarStep, GivesBuiltIn, Loading, ModuleStep, ResourceStep, built_in}
+pub use Rattle.w16_model.specs.Commands.{Command}
+pub use Rattle.w16_loading.specs.Families.{AnyCommand}
+pub use Rattle.w16_model.specs.Commands.Family.{OfHandles, OfResizes, OfFar, OfModules, OfResources, OfLocals}
+pub use Rattle.w16_model.specs.Commands.Command.{GlobalReAlloc, GlobalDiscard, Builtin, LoadModule, LoadLibrary, FreeLibrary, FreeModule, GetModuleHandle, GetModuleUsage, GetProcAddress, FindResource, LoadResource, LockResource, FreeResource, SizeofResource}
 pub use Rattle.w16_loading.specs.Fetch.{Accesses, Fetching, IsImage, far_read, far_write, gives, needs_fetch, read_of, reply_of_far, resource_bytes, segment_bytes}
 pub use Rattle.w16_loading.specs.Fewest.{RequestsFewestLaw}
 pub use Rattle.w16_loading.specs.File.{Far, Format, IsModuleFile, IsSegmentData, ModuleFile, Resource, Saying, Segment, SegmentData, Tables, Target, numbered, targets_of}
@@ -40,8 +41,7 @@ pub use Rattle.w16_loading.specs.Refusals.{OrRefused, by_reference, refusal_numb
 pub use Rattle.w16_loading.specs.Release.{heap_without, without_objects}
 pub use Rattle.w16_loading.specs.Replies.{HandleReplies, Reply, ResizeReplies, answer_in}
 pub use Rattle.w16_loading.specs.Replies.Reply.{Dword, Failed, Word}
-pub use Rattle.w16_loading.specs.Resizes.{ResizeCommand, ResizeStep}
-pub use Rattle.w16_loading.specs.Resizes.ResizeCommand.{GlobalDiscard, GlobalReAlloc}
+pub use Rattle.w16_loading.specs.Resizes.{ResizeStep}
 pub use Rattle.w16_loading.specs.Resource.{AnswersNone, LoadsNewResource, LoadsResource, LocksResource, attributes_for, free_resource, is_too_long, load_of, loaded_again, lock_outcome, locked, resource_at, resource_outcome, slot_of_resource, with_resource}
 pub use Rattle.w16_loading.specs.declared.FetchFault.{FetchFault}
 pub use Rattle.w16_loading.specs.declared.LoadRefusal.{LoadRefusal}
@@ -51,7 +51,7 @@ pub use Rattle.w16_model.proofs.Accesses.{Reached, reached}
 pub use Rattle.w16_model.proofs.Bystanders.{bystander, kept_or_discarded}
 pub use Rattle.w16_model.proofs.CallLaws.{contents}
 pub use Rattle.w16_model.proofs.CallOutcomes.{call_outcome, outcome}
-pub use Rattle.w16_model.proofs.Common.{All, Allocates, AllocatesFewest, AreHandles, AreNew, Asked, Bool, Call, Calls, FarAnswer, Fill, FinMap, GlobalLock, HandleCommand, Handles, Heap, IfOk, IfSome, IsAbout, IsAllocated, IsCompacted}
+pub use Rattle.w16_model.proofs.Common.{All, Allocates, AllocatesFewest, AreHandles, AreNew, Asked, Bool, Call, Calls, FarAnswer, Fill, FinMap, GlobalLock, Handles, Heap, IfOk, IfSome, IsAbout, IsAllocated, IsCompacted}
 pub use Rattle.w16_model.proofs.Common.{IsCounted, IsDiscarded, IsEntered, IsFreeRun, IsFreeSlot, IsFreed, IsHeap, IsKeptOrDiscarded, IsLocked, IsModified, IsNew, IsNewest, IsOldest, IsResized, IsRun, IsSame, IsSized, IsSomeAnd}
 pub use Rattle.w16_model.proofs.Common.{IsTrue, IsUnlocked, IsUnmoved, KeepsContents, KeepsOthers, List, MatchBool, MatchOption, Object, Outcome, Part, ReAllocs, Request, Resized, Settles, StandsStill, Walked, Write, [], absent, after_touch}
 pub use Rattle.w16_model.proofs.Common.{after_write, and_parts, ap, arith, attributes_asked, blocks, bytes_at, cases_Bool, cases_eq, cond, discarded, discards_needed, drop, eligible, entries_sorted, eq-eqb, eqb-true, false, false≢true, far_at}
@@ -74,7 +74,7 @@ pub use Rattle.w16_model.proofs.Outcomes.{address_law}
 pub use Rattle.w16_model.proofs.Parts.{All-repeated, length-put_part}
 pub use Rattle.w16_model.proofs.Prefixes.{filter_swapped}
 pub use Rattle.w16_model.proofs.ResizedHandles.{handle_law, resize_law}
-pub use Rattle.w16_model.specs.Far.{FarCommand, pointer_in}
+pub use Rattle.w16_model.specs.Far.{pointer_in}
 pub use Rattle.w16_model.specs.Outcomes.{CallStep}
 pub use Rattle.w16_model.specs.Owned.{owned_at, owned_in, revival_options}
 pub use Rattle.w16_model.specs.declared.Attributes.{Attributes}

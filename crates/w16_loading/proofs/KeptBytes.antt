@@ -1,6 +1,7 @@
 -- Bytes that are kept: an object has those that it had, or none.
 use Rattle.w16_loading.proofs.Common as C
 use Rattle.w16_loading.proofs.Common.{◌≡◌, ℕ, inl, inr, true, List, Option, Some, None, IfSome, refl, sym, ap, Heap, object_at, bytes_at, Handles, global_lock, Calls, bytes_in}
+use Rattle.w16_loading.proofs.Locks.{lock_contents}
 
 abbrev pub KeepsBytes : Heap → Heap → ℕ → Type 0
 KeepsBytes old new q = IfSome (bytes_at new q) (λ b. bytes_at old q ≡ Some b)
@@ -35,7 +36,4 @@ kept_bytes old new q (inr h) = turn _ h
 
 -- a lock keeps them in any handles
 pub locked : (old : Handles) (q handle : ℕ) → KeepsBytes old.heap (global_lock old handle).1.heap q
-locked old q handle =
-    let new = (global_lock old handle).1 in
-    let k = C.contents old new (Calls (C.GlobalLock _)) (global_lock old handle).0 (C.call_outcome old new _ (global_lock old _).0 (refl, refl)) refl in
-    same_bytes old.heap new.heap q (k.bytes q)
+locked old q handle = same_bytes old.heap (global_lock old handle).1.heap q ((lock_contents old handle).bytes q)

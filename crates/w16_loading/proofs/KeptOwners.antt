@@ -106,4 +106,4 @@ pub owners_law : (honest : Type 0) → C.OwnersLaw honest
 owners_law honest format old new command reply is step slot there =
     let answers = told honest format old.files old.failures new.failures in
     family (C.FetchesFrom _ _) (C.LoadsFrom Fills answers) (λ slice. Unit {0}) old (λ w. C.KeepsOwner old.handles w.handles slot)
-    (parts _ old is _ there) (record new { failures = old.failures }) reply command (nothing_asked _) step.step
+    (parts _ old is _ there) (record new { failures = old.failures }) reply command (nothing_asked command) step.step

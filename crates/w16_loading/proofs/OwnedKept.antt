@@ -3,6 +3,7 @@ use Rattle.w16_loading.proofs.Common as C
 use Rattle.w16_loading.proofs.Common.{◌≡◌, ℕ, inl, inr, false, Option, Some, None, is_some, refl, sym, ap, ◌∙◌, false≢true, cases_eq, Attributes, Owned, Handles, owned_in, owned_at, is_owned, owns, global_lock, Call, attributes_asked, Calls, nat_cmp, slots_for, rounded_size}
 use Rattle.w16_model.specs.Calls.{Answer}
 use Rattle.std.specs.FinMap as finmap
+use Rattle.w16_loading.proofs.Locks.{lock_contents}
 
 -- each slot's object is a module's, or none's, as it was
 abbrev pub SameOwned : Handles → Handles → Type 0
@@ -76,7 +77,4 @@ module _ (old : Handles) (is : C.AreHandles old) (call : Call) (answer : Answer)
 
 -- a lock keeps them in any handles
 pub locked : (old : Handles) (handle : ℕ) → SameOwned old (global_lock old handle).1
-locked old handle q =
-    let new = (global_lock old handle).1 in
-    let k = C.contents old new (Calls (C.GlobalLock _)) (global_lock old handle).0 (C.call_outcome old new _ (global_lock old _).0 (refl, refl)) refl in
-    ap (λ a. owned_in (finmap.get a q)) k.attributes
+locked old handle q = ap (λ a. owned_in (finmap.get a q)) (lock_contents old handle).attributes

@@ -4,6 +4,7 @@ use proofs.Common as C
 use proofs.Common.{◌≡◌, ℕ, zero, suc, inl, inr, Bool, List, [], Option, Some, None, MatchResult, LoadRefusal, OrRefused, Ok, Err, Heap, FetchFault, Store, LoadingWorld, Fills, Closure, Found, begun, dll, meant, Refused, Meant, Read, There, New, Answer, Command, Reply, ◌⊎◌, true, false, named}
 use proofs.{Fillings.one_heap, Cases.IsLoadable, Cases.option_as, Fewest.fill_fewest, Named.named_heap, ResourceWorlds.made_world, Answered.fulfils_as, Answered.turned}
 use Rattle.w16_loading.specs.Answers.{Answers, ClosesFrom, Ending, FetchesFrom, GivesFrom, GivesRead, LoadsFileFrom, LoadsFrom, ReadsFile, StepOver, follow, told, StepFrom}
+use Rattle.w16_loading.specs.Families.{AnyCommand}
 use Rattle.w16_loading.specs.Fewest.{FillsFewest, RequestsFewest}
 
 result_as : (E : LoadRefusal → Type 0) {X Y : Closure → Type 0} (r : OrRefused Closure) → ((c : Closure) → X c → Y c) → MatchResult r X E → MatchResult r Y E
@@ -76,7 +77,7 @@ module _ (E F : Ending) (Is : Heap → Type 0) (ends : (old : Heap) (slot : ℕ)
     load_as = loads_as a b within E F old (λ closure answer new h. fulfils_as (GivesFrom E a) (GivesFrom F b) Is
         (λ old slot held fault new is f. (gives_as _ (a.again held) (b.again held) (within.again held) old slot fault new is f, next old slot held fault new is f)) old closure answer new h (chosen closure h.choice h.is_choice))
 
-    step_as : (new : LoadingWorld) (command : Command) (reply : Reply) → Is old.handles.heap
+    step_as : (new : LoadingWorld) (command : AnyCommand) (reply : Reply) → Is old.handles.heap
         → ((slot handle place : ℕ) (r : C.Resource) → C.IsFreeSlot old.handles slot → IsLoadable old handle place r → C.load_of old handle place ≡ None → Is (C.with_resource old slot handle place r).handles.heap)
         → StepFrom E a old command reply new → StepFrom F b old command reply new
     step_as new command reply is made step = record {
@@ -119,8 +120,8 @@ module _ (a : Answers) (old : LoadingWorld) where
   pub load_fills : (load : Bool) (file : List ℕ) (answer : Answer) (new : LoadingWorld) → LoadsFrom FillsFewest a load old file answer new → LoadsFrom Fills a load old file answer new
   load_fills = load_as FillsFewest Fills (λ heap. Unit {0}) (λ old slot bytes answered new is f. f.0) a a (itself a) (λ old slot held fault new is f. tt) old (λ closure choice is. tt)
 
-  pub step_fills : (new : LoadingWorld) (command : Command) (reply : Reply) → StepFrom FillsFewest a old command reply new → StepFrom Fills a old command reply new
+  pub step_fills : (new : LoadingWorld) (command : AnyCommand) (reply : Reply) → StepFrom FillsFewest a old command reply new → StepFrom Fills a old command reply new
   step_fills new command reply = step_as FillsFewest Fills (λ heap. Unit {0}) (λ old slot bytes answered new is f. f.0) a a (itself a) (λ old slot held fault new is f. tt) old (λ closure choice is. tt) new command reply tt (λ slot handle place r free at none. tt)
 
-pub any_requests_fewest : (honest : Type 0) (format : C.Format) (old new : LoadingWorld) (command : Command) (reply : Reply) → C.IsLoadingWorld old → StepOver honest format old command reply new → RequestsFewest old command reply new
+pub any_requests_fewest : (honest : Type 0) (format : C.Format) (old new : LoadingWorld) (command : AnyCommand) (reply : Reply) → C.IsLoadingWorld old → StepOver honest format old command reply new → RequestsFewest old command reply new
 any_requests_fewest honest format old new command reply is step = (format, requests_fewest_law ⊥ format old new _ _ is (any_step_law _ format old new _ _ step))

@@ -1,7 +1,8 @@
 -- The calls on resources keep what holds of every world.
 use Rattle.w16_loading.proofs
 use proofs.Common as C
-use proofs.Common.{◌≡◌, ◌≢◌, ℕ, ◌+◌, ◌-◌, ◌<◌, ◌≤◌, inl, inr, ◌⊎◌, Bool, true, false, ◌&&◌, ◌==◌, Option, Some, None, IfSome, IsSomeAnd, is_some, refl, sym, ap, ◌∙◌, subst, arith, eq-eqb, false≢true, cases_eq, Kind, Object, object_at, HandleCommand, rounded_size, inserted_here}
+use proofs.Common.{◌≡◌, ◌≢◌, ℕ, ◌+◌, ◌-◌, ◌<◌, ◌≤◌, inl, inr, ◌⊎◌, Bool, true, false, ◌&&◌, ◌==◌, Option, Some, None, IfSome, IsSomeAnd, is_some, refl, sym, ap, ◌∙◌, subst, arith, eq-eqb, false≢true, cases_eq, Kind, Object, object_at, rounded_size, inserted_here}
+use Rattle.w16_model.specs.Commands.{Command}
 use proofs.Common.{inserted_other, with_absent_object, MOST_USES, Resource, Owned, owned_in, owned_at, LoadingWorld, Load, Module, module_at, is_too_long, IsLoadingWorld, IsObjectOf, IsLoad, Calls, unused_slot, run_of_one, LARGEST_OWNED, ◌||◌}
 use proofs.Worlds.{same_module, is_used, is_load, HasOwner, owner_stays, extends, follows}
 use proofs.ShrunkWorlds.{shrunk, stays_of, owner_left, released_handles}
@@ -12,7 +13,7 @@ use Rattle.std.specs.FinMap as finmap
 -- A lock.
 
 pub locked_world : (old : LoadingWorld) → IsLoadingWorld old → (handle : ℕ) → IsLoadingWorld (C.locked old handle).1
-locked_world old is handle = call_world old is (Calls (HandleCommand.GlobalLock _)) (C.global_lock old.handles handle).0 (C.global_lock old.handles handle).1 (refl, refl)
+locked_world old is handle = call_world old is (Calls (Command.GlobalLock _)) (C.global_lock old.handles handle).0 (C.global_lock old.handles handle).1 (refl, refl)
 
 -- Another count of loads.
 

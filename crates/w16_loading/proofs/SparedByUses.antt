@@ -2,13 +2,16 @@
 use Rattle.w16_loading.proofs
 use proofs.Common as C
 use proofs.Spared as M
-use proofs.Common.{inl, inr, ◌≡◌, ◌≢◌, ℕ, ◌/◌, ◌==◌, Bool, true, false, cond, List, Option, Some, None, option_map, refl, sym, ap, ◌∙◌, subst, arith, global_lock, GlobalLock, FarCommand, far_slot, Write, Fill, offset_in, selector_in, slot_of_handle, object_at, Calls, FetchFault}
+use proofs.Common.{inl, inr, ◌≡◌, ◌≢◌, ℕ, ◌/◌, ◌==◌, Bool, true, false, cond, List, Option, Some, None, option_map, refl, sym, ap, ◌∙◌, subst, arith, global_lock, GlobalLock, far_slot, Write, Fill, offset_in, selector_in, slot_of_handle, object_at, Calls, FetchFault}
+use Rattle.w16_model.specs.Commands.{Command}
+use Rattle.w16_model.specs.Commands.Family.{OfFar}
+use Rattle.w16_model.specs.Commands.Command.{Read}
 use proofs.Common.{FetchesFrom, Fills, pointer_in, FarStep, far_write, gives, LoadingWorld, Load, Reply, LocksResource, locked, Part, part_of_selector, IsSomeAnd, far_at}
 use proofs.{Cases.access_cases, Cases.lock_cases, FarCases.read_cases, FarCases.write_cases, FetchWorlds.fetched_world, Fillings.lost}
-use Rattle.w16_model.specs.Far.FarCommand.{Read}
 use Rattle.w16_model.proofs.Runs.{numbered}
 use Rattle.std.specs.FinMap as finmap
 use Rattle.w16_loading.specs.declared.FetchFault.TheVariants as faults
+use Rattle.w16_loading.proofs.Locks.{lock_contents, lock_outcome}
 
 -- What holds of a world before an access or a lock, and of each that a fetch leaves, and so of what the access or the lock leaves.
 module _ (fetches : C.Fetching) (P Q : LoadingWorld → Type 0) (old new : LoadingWorld) (reply : Reply) (start : P old) where
@@ -23,7 +26,7 @@ module _ (fetches : C.Fetching) (P Q : LoadingWorld → Type 0) (old new : Loadi
       after next None good g = subst Q (sym g.1) (does next good).1
       after next (Some f) good g = subst Q (sym g.1) (does next good).0
 
-  access_does : (command : FarCommand) → ((fault : Option FetchFault) (next : LoadingWorld) → fetches old (far_slot old.handles (selector_in (pointer_in command))) fault next → P next)
+  access_does : (command : Command OfFar) → ((fault : Option FetchFault) (next : LoadingWorld) → fetches old (far_slot old.handles (selector_in (pointer_in command))) fault next → P next)
       → ((world : LoadingWorld) → P world → Q world) → ((offset n : ℕ) (world : LoadingWorld) → P world → Q (C.far_read (selector_in (pointer_in command)) offset n world).1)
       → ((offset : ℕ) (slice : List ℕ) (world : LoadingWorld) → P world → Q (far_write (selector_in (pointer_in command)) offset slice world).1) → FarStep fetches old command reply new → Q new
   access_does (Read pointer count) fetched same read written step = accessed (C.far_read (selector_in pointer) (offset_in pointer) count) (selector_in pointer) fetched (λ w p. (same w p, read (offset_in pointer) count w p)) step
@@ -71,10 +74,6 @@ named_slot old handle x = turn _
     turn None e = cc
     turn (Some slot) e = by_load _ _ e
 
--- a lock of a handle moves nothing
-lock_contents : (old : C.Handles) (handle : ℕ) → C.KeepsContents old (global_lock old handle).1
-lock_contents old handle = C.contents old (global_lock old _).1 (Calls (GlobalLock _)) (global_lock old handle).0 (C.call_outcome old (global_lock old _).1 _ (global_lock old _).0 (refl, refl)) refl
-
 module _ (answers : C.Answers) (old : LoadingWorld) (is : C.IsLoadingWorld old) (q : ℕ) (there : C.is_some (object_at old.handles.heap q) ≡ true) (new : LoadingWorld) (reply : Reply) where
   abbrev Spared : LoadingWorld → Type 0
   Spared world = M.IsSpared old.handles.heap world.handles.heap q
@@ -99,7 +98,7 @@ module _ (answers : C.Answers) (old : LoadingWorld) (is : C.IsLoadingWorld old) 
   same_slot : (slot selector : ℕ) (fault : Option FetchFault) (next : LoadingWorld) → FetchesFrom Fills answers old slot fault next → far_slot next.handles selector ≡ far_slot old.handles selector
   same_slot slot selector fault next f = ap (λ (w : LoadingWorld). far_slot w.handles selector) f.rest
 
-  pub access_spares : (command : FarCommand) → (IsSomeAnd (part_of_selector old.handles (selector_in (pointer_in command))) (λ (p : Part). p.slot ≡ q) → ⊥) → FarStep (FetchesFrom Fills answers) old command reply new → Spared new
+  pub access_spares : (command : Command OfFar) → (IsSomeAnd (part_of_selector old.handles (selector_in (pointer_in command))) (λ (p : Part). p.slot ≡ q) → ⊥) → FarStep (FetchesFrom Fills answers) old command reply new → Spared new
   access_spares command out step = access_does (FetchesFrom Fills answers) (λ w. Spared w × (q ≢ far_slot w.handles selector)) Spared old new reply (M.same_spared old.handles.heap q, other) command
       (λ fault next f. (M.fetch_spares is.handles.heap f q other, λ e. other (e ∙ same_slot (far_slot old.handles selector) selector fault next f)))
       (λ w p. p.0) (λ offset n w p. read_cases Spared w p.0 selector offset n p.0)
@@ -113,7 +112,7 @@ module _ (answers : C.Answers) (old : LoadingWorld) (is : C.IsLoadingWorld old) 
       other : q ≢ far_slot old.handles (selector_in (pointer_in command))
       other = not_reached (selector_in (pointer_in command)) out
 
-  pub access_stands : M.HasPinned old.handles.heap q → (command : FarCommand) → FarStep (FetchesFrom Fills answers) old command reply new → Stands new
+  pub access_stands : M.HasPinned old.handles.heap q → (command : Command OfFar) → FarStep (FetchesFrom Fills answers) old command reply new → Stands new
   access_stands pinned command step = access_does (FetchesFrom Fills answers) Stands Stands old new reply stands_first command
       (λ fault next f. M.fetch_stands is.handles.heap f q pinned)
       (λ w p. p) (λ offset n w p. read_cases Stands w p (selector_in (pointer_in command)) offset n p)
@@ -126,8 +125,7 @@ module _ (answers : C.Answers) (old : LoadingWorld) (is : C.IsLoadingWorld old) 
 
   lock_spares_of : (world : LoadingWorld) (handle : ℕ) → C.AreHandles world.handles → slot_of_handle world.handles handle ≢ Some q → C.is_some (object_at world.handles.heap q) ≡ true → M.IsSpared world.handles.heap (locked world handle).1.handles.heap q
   lock_spares_of world handle are out some = (
-    C.bystander world.handles (global_lock world.handles handle).1 are (Calls (GlobalLock handle)) (global_lock world.handles handle).0 q
-        (C.call_outcome world.handles (global_lock world.handles handle).1 (GlobalLock handle) (global_lock world.handles handle).0 (refl, refl)) (λ m. some) out,
+    C.bystander world.handles (global_lock world.handles handle).1 are _ (global_lock world.handles handle).0 q (lock_outcome world.handles handle) (λ m. some) out,
     λ pinned. lock_stands_of world handle,
   )
 

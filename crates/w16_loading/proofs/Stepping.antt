@@ -1,12 +1,16 @@
 -- What the parts of a step do to a world, the step does: fetches, loads, and changes of what is kept beside them.
 use Rattle.w16_loading.proofs
 use proofs.Common as C
-use proofs.Common.{◌≡◌, ℕ, ◌+◌, ◌-◌, ◌<◌, ◌≤◌, inl, inr, Bool, true, false, cond, ◌&&◌, ◌==◌, nat_lt, List, Option, Some, None, refl, sym, ap, ◌∙◌, subst, arith, handle_of, selector_in, offset_in, repeated, FarCommand, MOST_USES, FetchFault, Resource, LoadingWorld, Load, Reply, Word}
-use proofs.Common.{far_write, gives, Frees, load_of, slot_of_resource, Command, ModuleCommand, ResourceCommand}
+use proofs.Common.{◌≡◌, ℕ, ◌+◌, ◌-◌, ◌<◌, ◌≤◌, inl, inr, Bool, true, false, cond, ◌&&◌, ◌==◌, nat_lt, List, Option, Some, None, refl, sym, ap, ◌∙◌, subst, arith, handle_of, selector_in, offset_in, repeated, MOST_USES, FetchFault, Resource, LoadingWorld, Load, Reply, Word}
+use Rattle.w16_model.specs.Commands.{Command}
+use Rattle.w16_loading.specs.Families.{AnyCommand}
+use Rattle.w16_model.specs.Commands.Family.{OfHandles, OfResizes, OfLocals, OfFar, OfModules, OfResources}
+use proofs.Common.{far_write, gives, Frees, load_of, slot_of_resource}
 use proofs.Importers.{entry_there, found_passes}
 use proofs.Cases.{IsLoadable, access_cases, by_option, lock_cases, resource_cases}
 use Rattle.std.specs.FinMap as finmap
 use Rattle.w16_loading.specs.declared.FetchFault.TheVariants as faults
+use Rattle.w16_loading.specs.Families.AnyCommand.{any}
 
 -- what is found among entries is there
 pub found_load : (old : LoadingWorld) (handle place : ℕ) (x : ℕ × Load) → load_of old handle place ≡ Some x → finmap.get old.loads x.0 ≡ Some x.1
@@ -43,8 +47,8 @@ freed_by old p = elim p [
 -- What is to hold of the parts of a step from this world: fetches and loads by these definitions, and bytes that are written.
 pub record Parts (fetches : C.Fetching) (loads : C.Loading) (Ours : List ℕ → Type 0) (old : LoadingWorld) (P : LoadingWorld → Type 0) : Type 0 where
   pub start : P old
-  pub handles : (command : C.HandleCommand) (reply : Reply) (next : C.Handles) → C.HandleReplies old.handles command reply next → P (record old { handles = next })
-  pub resizes : (command : C.ResizeCommand) (reply : Reply) (next : C.Handles) → C.ResizeReplies old.handles command reply next → P (record old { handles = next })
+  pub handles : (command : C.Command C.OfHandles) (reply : Reply) (next : C.Handles) → C.HandleReplies old.handles command reply next → P (record old { handles = next })
+  pub resizes : (command : C.Command C.OfResizes) (reply : Reply) (next : C.Handles) → C.ResizeReplies old.handles command reply next → P (record old { handles = next })
   pub reads : (selector offset n : ℕ) (world : LoadingWorld) → P world → P (C.far_read selector offset n world).1
   pub writes : (selector offset : ℕ) (slice : List ℕ) (world : LoadingWorld) → Ours slice → P world → P (far_write selector offset slice world).1
   pub fetched : (slot : ℕ) (fault : Option FetchFault) (next : LoadingWorld) → fetches old slot fault next → P next
@@ -59,14 +63,14 @@ pub record Parts (fetches : C.Fetching) (loads : C.Loading) (Ours : List ℕ →
   pub last : (slot : ℕ) (load : Load) → finmap.get old.loads slot ≡ Some load → P (without_load old slot)
 
 -- the bytes that a far access writes
-abbrev pub Writes : (List ℕ → Type 0) → Command → Type 0
-Writes Ours (Command.OfFar (FarCommand.Write pointer bytes)) = Ours bytes
-Writes Ours (Command.OfFar (FarCommand.Fill pointer count byte)) = Ours (repeated count byte)
+abbrev pub Writes : (List ℕ → Type 0) → AnyCommand → Type 0
+Writes Ours (any _ (Command.Write pointer bytes)) = Ours bytes
+Writes Ours (any _ (Command.Fill pointer count byte)) = Ours (repeated count byte)
 Writes Ours other = Unit {0}
 
-pub nothing_asked : (command : Command) → Writes (λ slice. Unit {0}) command
-nothing_asked (Command.OfFar (FarCommand.Write pointer bytes)) = tt
-nothing_asked (Command.OfFar (FarCommand.Fill pointer count byte)) = tt
+pub nothing_asked : (command : AnyCommand) → Writes (λ slice. Unit {0}) command
+nothing_asked (any _ (Command.Write pointer bytes)) = tt
+nothing_asked (any _ (Command.Fill pointer count byte)) = tt
 nothing_asked command = tt
 
 module _ (fetches : C.Fetching) (loads : C.Loading) (Ours : List ℕ → Type 0) (old : LoadingWorld) (P : LoadingWorld → Type 0) (parts : Parts fetches loads Ours old P) (new : LoadingWorld) (reply : Reply) where
@@ -84,10 +88,10 @@ module _ (fetches : C.Fetching) (loads : C.Loading) (Ours : List ℕ → Type 0)
       after next None good g = subst P (sym g.1) (keeps next good)
       after next (Some f) good g = subst P (sym g.1) good
 
-  far : (command : FarCommand) → Writes Ours (Command.OfFar command) → C.FarStep fetches old command reply new → P new
-  far (FarCommand.Read pointer count) ours step = accessed (C.far_read (selector_in pointer) (offset_in pointer) count) (parts.reads (selector_in pointer) (offset_in pointer) count) (selector_in pointer) step
-  far (FarCommand.Write pointer bytes) ours step = accessed (far_write (selector_in pointer) (offset_in pointer) bytes) (λ w. parts.writes (selector_in pointer) (offset_in pointer) bytes w ours) (selector_in pointer) step
-  far (FarCommand.Fill pointer count byte) ours step =
+  far : (command : Command OfFar) → Writes Ours (any OfFar command) → C.FarStep fetches old command reply new → P new
+  far (Command.Read pointer count) ours step = accessed (C.far_read (selector_in pointer) (offset_in pointer) count) (parts.reads (selector_in pointer) (offset_in pointer) count) (selector_in pointer) step
+  far (Command.Write pointer bytes) ours step = accessed (far_write (selector_in pointer) (offset_in pointer) bytes) (λ w. parts.writes (selector_in pointer) (offset_in pointer) bytes w ours) (selector_in pointer) step
+  far (Command.Fill pointer count byte) ours step =
       accessed (far_write (selector_in pointer) (offset_in pointer) (repeated count byte)) (λ w. parts.writes (selector_in pointer) (offset_in pointer) (repeated count byte) w ours) (selector_in pointer) step
 
   gives_built_in : (name : List ℕ) (answer : ℕ) → C.GivesBuiltIn old name answer new → P new
@@ -97,12 +101,12 @@ module _ (fetches : C.Fetching) (loads : C.Loading) (Ours : List ℕ → Type 0)
     | inr (handle, e, f) ↦ as_it_was f.1
   ]
 
-  modules : (command : ModuleCommand) → C.ModuleStep loads old command reply new → P new
-  modules (ModuleCommand.Builtin name) f = gives_built_in name f.0 f.2
-  modules (ModuleCommand.LoadModule file) f = parts.loaded true file f.0 new f.2
-  modules (ModuleCommand.LoadLibrary file) f = parts.loaded false file f.0 new f.2
-  modules (ModuleCommand.FreeLibrary handle) f = parts.freed handle f.0 new f.2
-  modules (ModuleCommand.FreeModule handle) f = parts.freed handle f.0 new f.2
+  modules : (command : Command OfModules) → C.ModuleStep loads old command reply new → P new
+  modules (Command.Builtin name) f = gives_built_in name f.0 f.2
+  modules (Command.LoadModule file) f = parts.loaded true file f.0 new f.2
+  modules (Command.LoadLibrary file) f = parts.loaded false file f.0 new f.2
+  modules (Command.FreeLibrary handle) f = parts.freed handle f.0 new f.2
+  modules (Command.FreeModule handle) f = parts.freed handle f.0 new f.2
   modules other f = as_it_was f.1
 
   outcome_is : (outcome : Reply × LoadingWorld) → ◌≡◌ {A = Reply × LoadingWorld} (reply, new) outcome → P outcome.1 → P new
@@ -155,16 +159,16 @@ module _ (fetches : C.Fetching) (loads : C.Loading) (Ours : List ℕ → Type 0)
       turn None e = parts.start
       turn (Some x) e = by_test x (resource_load old handle x e) (nat_lt 1 x.1.loads) (nat_lt 0 (C.locks_at old.handles.heap x.0)) refl
 
-  resources : (command : ResourceCommand) → C.ResourceStep fetches old command reply new → P new
-  resources (ResourceCommand.LoadResource handle place) f = resource_loaded handle place f
-  resources (ResourceCommand.LockResource handle) f = resource_locked handle f
-  resources (ResourceCommand.FreeResource handle) f = subst P (sym f.1) (resource_freed handle)
+  resources : (command : Command OfResources) → C.ResourceStep fetches old command reply new → P new
+  resources (Command.LoadResource handle place) f = resource_loaded handle place f
+  resources (Command.LockResource handle) f = resource_locked handle f
+  resources (Command.FreeResource handle) f = subst P (sym f.1) (resource_freed handle)
   resources other f = as_it_was f.1
 
-  pub family : (command : Command) → Writes Ours command → C.FamilyStep fetches loads old command reply new → P new
-  family (Command.OfHandles command) ours f = subst P (sym f.2) (parts.handles command reply f.0 f.1)
-  family (Command.OfResizes command) ours f = subst P (sym f.2) (parts.resizes command reply f.0 f.1)
-  family (Command.OfFar command) ours f = far command ours f
-  family (Command.OfModules command) ours f = modules command f
-  family (Command.OfResources command) ours f = resources command f
-  family (Command.OfLocals command) ours f = absurd f
+  pub family : (command : AnyCommand) → Writes Ours command → C.FamilyStep fetches loads old command reply new → P new
+  family (any OfHandles command) ours f = subst P (sym f.2) (parts.handles command reply f.0 f.1)
+  family (any OfResizes command) ours f = subst P (sym f.2) (parts.resizes command reply f.0 f.1)
+  family (any OfFar command) ours f = far command ours f
+  family (any OfModules command) ours f = modules command f
+  family (any OfResources command) ours f = resources command f
+  family (any OfLocals command) ours f = absurd f

@@ -1,7 +1,9 @@
 -- Each step of each family keeps what holds of every world, whatever the store answers.
 use Rattle.w16_loading.proofs
 use proofs.Common as C
-use proofs.Common.{◌<◌, All, Some, None, refl, sym, ap, subst, Heap, FarCommand, LoadingWorld, named, fills, left, Answers, Fills, told, Command, IsLoadingWorld}
+use proofs.Common.{◌<◌, All, Some, None, refl, sym, ap, subst, Heap, LoadingWorld, named, fills, left, Answers, Fills, told, Command, IsLoadingWorld}
+use Rattle.w16_model.specs.Commands.{Command}
+use Rattle.w16_loading.specs.Families.{AnyCommand}
 use proofs.KeptWorlds.{kept_left, left_owned, world_stays, recounted}
 use proofs.FarWorlds.{read_world, write_world}
 use proofs.ModuleWorlds.{used_world, built_world}
@@ -9,6 +11,7 @@ use proofs.ResourceWorlds.{locked_world, counted_world, made_world, last_world}
 use proofs.Answered.{HoldFiles, loaded_by}
 use proofs.Stepping.{Parts, Writes, family}
 use proofs.{Fillings.lost, Fillings.kept_sized, RefusedLoad.undone_discards, CallsKept.handles_world, CallsKept.resizes_world, FetchWorlds.fetched_world, FreeWorlds.free_world, ClosureFacts.IsClosure, LoadWorlds.loaded_world, Owners.object_there}
+use Rattle.w16_loading.specs.Families.AnyCommand.{any}
 
 -- what a refused load leaves
 discards_world : (old : LoadingWorld) → IsLoadingWorld old → (heap : Heap) → C.OnlyDiscards old.handles.heap heap → IsLoadingWorld (C.with_heap old heap)
@@ -42,13 +45,13 @@ module _ (answers : Answers) (are : HoldFiles answers) (old : LoadingWorld) (is 
     last = λ slot load there. last_world old is slot load there;
   }
 
-ours : (command : Command) → C.IsCommand command → Writes (λ slice. All (λ b. b < 256) slice) command
-ours (Command.OfFar (FarCommand.Write pointer bytes)) known = known
-ours (Command.OfFar (FarCommand.Fill pointer count byte)) known = C.All-repeated _ _ known
+ours : (command : AnyCommand) → C.IsCommand command → Writes (λ slice. All (λ b. b < 256) slice) command
+ours (any _ (Command.Write pointer bytes)) known = known
+ours (any _ (Command.Fill pointer count byte)) known = C.All-repeated _ _ known
 ours command known = tt
 
 pub keeps_worlds_law : (honest : Type 0) → C.KeepsWorldsLaw honest
 keeps_worlds_law honest format old new command reply is known step =
     let answers = told honest format old.files old.failures new.failures in
     recounted (record new { failures = old.failures }) (family _ _ (λ slice. All (λ b. b < 256) _) old _
-    (parts _ (λ name read h. h.0) old is) (record new { failures = old.failures }) reply command (ours _ known) step.step) _
+    (parts _ (λ name read h. h.0) old is) (record new { failures = old.failures }) reply command (ours command known) step.step) _

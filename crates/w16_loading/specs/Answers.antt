@@ -11,7 +11,8 @@ use specs.Closure.Referent.{There, New}
 use specs.Closure.Reading.{Refused, Meant, Read}
 use specs.Load.{Answer, LoadsNew, Refuses, refusal_of, used_again}
 use specs.{declared.FetchFault.FetchFault, declared.LoadRefusal.LoadRefusal, Refusals.OrRefused, Refusals.by_reference, Refusals.is_of_format, Modules.LoadingWorld, Modules.with_heap, Fill.Giving, Fill.Fills, Fill.is_of_read, Load.Answer.StoreFails, Fetch.IsImage, Fetch.IsRead}
-use specs.{Replies.Reply, Families.Command, Families.FamilyStep}
+use specs.{Replies.Reply, Families.FamilyStep}
+use Rattle.w16_loading.specs.Families.{AnyCommand}
 use Rattle.std.specs.FinMap as finmap
 use Rattle.w16_loading.specs.declared.FetchFault.TheVariants as faults
 
@@ -102,7 +103,7 @@ LoadsFrom ends answers is_load_module old file answer new =
     ⊎ ((r : Reading) × ReadsFile answers (around old) [] file r × LoadsFileFrom ends answers is_load_module old file r answer new)
 
 -- One step by the answers that it got. What a family's definition says is of worlds with one count of failures.
-pub record StepFrom (ends : Ending) (answers : Answers) (old : LoadingWorld) (command : Command) (reply : Reply) (new : LoadingWorld) : Type 0 where
+pub record StepFrom (ends : Ending) (answers : Answers) (old : LoadingWorld) (command : AnyCommand) (reply : Reply) (new : LoadingWorld) : Type 0 where
   pub counted : old.failures ≤ new.failures
   pub files : new.files ≡ old.files
   pub step : FamilyStep (FetchesFrom ends answers) (LoadsFrom ends answers) old command reply (record new { failures = old.failures })
@@ -141,5 +142,5 @@ told honest format files before after = record {
 }
 
 -- THE step over a store that is honest where the premise holds.
-abbrev pub StepOver : (honest : Type 0) → Format → LoadingWorld → Command → Reply → LoadingWorld → Type 0
+abbrev pub StepOver : (honest : Type 0) → Format → LoadingWorld → AnyCommand → Reply → LoadingWorld → Type 0
 StepOver honest format old command reply new = StepFrom Fills (told honest format old.files old.failures new.failures) old command reply new

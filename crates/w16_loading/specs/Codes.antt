@@ -4,9 +4,10 @@ use Rattle.std.specs.Prelude.{◌≡◌, ℕ, ◌⊎◌, Bool, List, Option, ref
 use Rattle.std.specs.Coded.{Coded, code_by, coded×, coded⊎, coded_ℕ, coded_bool, coded_list, coded_option}
 use Rattle.std.specs.{Ordering.nat_cmp, FinMap.FinMap}
 use Rattle.w16_model.specs.{declared.Kind.Kind, Handles.Handles, Codes.kind_code, Codes.handles_code}
-use specs.File.{Far, Segment, Entry, Label, Resource, Tables}
+use specs.File.{Far, Segment, Entry, Resource, Tables}
+use Rattle.w16_model.specs.Commands.{Label}
+use Rattle.w16_model.specs.Commands.Label.{Number, Text}
 use specs.File.Entry.{InSegment, Constant}
-use specs.File.Label.{Number, Text}
 use specs.Modules.{Module, Named, Load, LoadingWorld}
 use specs.Modules.Named.{Loaded, BuiltIn}
 use mathlib.Core.Logic.{inl, inr}

@@ -2,6 +2,8 @@
 use Rattle.std.specs.Prelude.{◌≡◌, ℕ, ◌-◌, ◌<◌, ◌≤◌, Bool, false, ◌==◌, if◌then◌else◌, List, [], length, find, All, Option, None, unwrap_or, option_map, slice_get}
 use Rattle.std.specs.List.{AllZip}
 use Rattle.w16_model.specs.{declared.Kind.Kind, declared.TheConstants.GRAIN, Heap.IsMultiple}
+use Rattle.w16_model.specs.Commands.{Label}
+use Rattle.w16_model.specs.Commands.Label.{Number, Text}
 use Rattle.w16_loading.specs.{Refusals.OrRefused, declared.TheConstants.LARGEST_OWNED}
 use Rattle.w16_store.specs.Names.{is_named}
 use base.Stored.{Gv}
@@ -24,11 +26,6 @@ pub record Segment : Type 0 where
 pub data Entry : Type 0 where
   InSegment : (number offset : ℕ) → Entry
   Constant : (value : ℕ) → Entry
-
--- a resource's type or name
-pub data Label : Type 0 where
-  Number : (value : ℕ) → Label
-  Text : (text : List ℕ) → Label
 
 -- a resource: the length is that in the file
 pub record Resource : Type 0 where

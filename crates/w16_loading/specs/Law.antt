@@ -5,8 +5,12 @@ use Rattle.std.specs.Prelude.{◌≡◌, ℕ, ◌+◌, ◌<◌, ◌≤◌, ◌�
 use Rattle.std.specs.List.{AllZip}
 use Rattle.w16_model.specs.Handles.{Handles, slot_of_selector, selector_in, offset_in, IsFreeSlot}
 use Rattle.w16_model.specs.Heap.{Heap, Object, IsHeap, object_at, bytes_at}
-use Rattle.w16_model.specs.{Bytes.part, Far.FarCommand.Read, Owned.owned_at, Owned.revival_options, declared.TheConstants.MOST_SLOTS, CallLaws.IsKeptOrDiscarded, Request.Allocates, Law.AreHandles, Law.empty_handles}
-use Rattle.w16_model.specs.{Calls.rounded_size, Law.IsFarCommand, Law.FarStep, Far.pointer_in, Far.FarCommand}
+use Rattle.w16_model.specs.{Bytes.part, Owned.owned_at, Owned.revival_options, declared.TheConstants.MOST_SLOTS, CallLaws.IsKeptOrDiscarded, Request.Allocates, Law.AreHandles, Law.empty_handles}
+use Rattle.w16_model.specs.Commands.{Command}
+use Rattle.w16_loading.specs.Families.{AnyCommand}
+use Rattle.w16_model.specs.Commands.Family.{OfHandles, OfResizes, OfFar, OfModules, OfResources, OfLocals}
+use Rattle.w16_model.specs.Commands.Command.{Read}
+use Rattle.w16_model.specs.{Calls.rounded_size, Law.IsFarCommand, Law.FarStep, Far.pointer_in}
 use Rattle.w16_model.specs.{Far.after_write, declared.Kind.Kind, Discards.is_member}
 use specs.declared.TheConstants.{FIRST_MODULE, MOST_MODULES, MOST_USES}
 use specs.File.{Saying, Format, ModuleFile, Segment, SegmentData, Far, Target, IsModuleFile, Resource, numbered}
@@ -16,8 +20,7 @@ use specs.Closure.{Closure}
 use specs.Naming.{Choice, IsChoice, named, with_segment}
 use specs.Load.Answer.{Says, StoreFails}
 use specs.Answers.{StepOver, told, FetchesFrom}
-use specs.Families.{Command, access_of}
-use Rattle.w16_loading.specs.Families.Command.{OfFar, OfHandles, OfLocals, OfModules, OfResizes, OfResources}
+use specs.Families.{access_of}
 use specs.Replies.Reply.{Bytes, Done, Fault}
 use specs.Fetch.{read_of, segment_bytes, needs_fetch}
 use specs.{declared.FetchFault.FetchFault, Refusals.is_of_format, Modules.Named.Loaded, Release.without_objects, Load.Answer, Load.undone, Replies.Reply, Resource.is_too_long, Resource.resource_at}
@@ -25,6 +28,7 @@ use Rattle.w16_store.specs.Names.{is_named}
 use Rattle.std.specs.FinMap as finmap
 use Rattle.w16_model.specs.Owned as owned
 use Rattle.w16_model.specs.Far as far
+use Rattle.w16_loading.specs.Families.AnyCommand.{any}
 
 -- Files, and steps in part.
 
@@ -42,16 +46,16 @@ pub record IsFormat (format : Format) : Type 0 where
       → IfOk (format.says file) (λ read. IfSome (numbered read.tables.resources number) (λ r. IsSomeAnd (format.contents file number) (IsContent r)))
 
 -- a command's numbers are in their range, where they have one
-abbrev pub IsCommand : Command → Type 0
-IsCommand (OfHandles command) = Unit {0}
-IsCommand (OfResizes command) = Unit {0}
-IsCommand (OfFar command) = IsFarCommand command
-IsCommand (OfModules command) = Unit {0}
-IsCommand (OfResources command) = Unit {0}
-IsCommand (OfLocals command) = Unit {0}
+abbrev pub IsCommand : AnyCommand → Type 0
+IsCommand (any OfHandles command) = Unit {0}
+IsCommand (any OfResizes command) = Unit {0}
+IsCommand (any OfFar command) = IsFarCommand command
+IsCommand (any OfModules command) = Unit {0}
+IsCommand (any OfResources command) = Unit {0}
+IsCommand (any OfLocals command) = Unit {0}
 
 -- whether a far access meets a module's object without bytes, and fetches it
-abbrev pub far_reads_file : LoadingWorld → FarCommand → Bool
+abbrev pub far_reads_file : LoadingWorld → Command OfFar → Bool
 far_reads_file old command = needs_fetch (access_of command old).0 old (selector_in (pointer_in command))
 
 -- whether a slot's object is code
@@ -66,7 +70,7 @@ far_answer_in (Fault fault) = Some (far.FarAnswer.Fault fault)
 far_answer_in other = None
 
 -- a far access that fetches nothing, its answer being the one that a reply prints
-abbrev pub FarReplies : Handles → FarCommand → Reply → Handles → Type 0
+abbrev pub FarReplies : Handles → Command OfFar → Reply → Handles → Type 0
 FarReplies old command reply new = IsSomeAnd (far_answer_in reply) (λ answer. FarStep old command answer new)
 
 -- a fetch over a store whose count of failures went from one number to another meanwhile
@@ -138,12 +142,12 @@ EmptyOfFilesLaw = (format : Format) (memory slots : ℕ) (files : List (List ℕ
 
 -- A step keeps what holds of every world, whatever the store answers,
 abbrev pub KeepsWorldsLaw : (honest : Type 0) → Type 0
-KeepsWorldsLaw honest = (format : Format) (old new : LoadingWorld) (command : Command) (reply : Reply) → IsLoadingWorld old → IsCommand command
+KeepsWorldsLaw honest = (format : Format) (old new : LoadingWorld) (command : AnyCommand) (reply : Reply) → IsLoadingWorld old → IsCommand command
     → StepOver honest format old command reply new → IsLoadingWorld new
 
 -- and one over an honest store is one over any.
 abbrev pub AnyStepLaw : (honest : Type 0) → Type 0
-AnyStepLaw honest = (format : Format) (old new : LoadingWorld) (command : Command) (reply : Reply) → StepOver honest format old command reply new
+AnyStepLaw honest = (format : Format) (old new : LoadingWorld) (command : AnyCommand) (reply : Reply) → StepOver honest format old command reply new
     → StepOver ⊥ format old command reply new
 
 -- an object keeps its owner, or has none any more
@@ -152,19 +156,19 @@ KeepsOwner old new slot = (owned_at new slot ≡ owned_at old slot) ⊎ (owned_a
 
 -- So does each object that is there, whatever the store answers: none comes to be a module's, or code.
 abbrev pub OwnersLaw : (honest : Type 0) → Type 0
-OwnersLaw honest = (format : Format) (old new : LoadingWorld) (command : Command) (reply : Reply) → IsLoadingWorld old → StepOver honest format old command reply new
+OwnersLaw honest = (format : Format) (old new : LoadingWorld) (command : AnyCommand) (reply : Reply) → IsLoadingWorld old → StepOver honest format old command reply new
     → (slot : ℕ) → is_some (object_at old.handles.heap slot) ≡ true → KeepsOwner old.handles new.handles slot
 
 -- the code that a script reads is always its file's, relocated, where the store is honest
 abbrev pub CodeLaw : (honest : Type 0) → Type 0
-CodeLaw honest = (format : Format) (old new : LoadingWorld) (command : Command) (reply : Reply) → honest → IsLoadingWorld old → IsOfFiles format old
+CodeLaw honest = (format : Format) (old new : LoadingWorld) (command : AnyCommand) (reply : Reply) → honest → IsLoadingWorld old → IsOfFiles format old
     → StepOver honest format old command reply new → IsOfFiles format new
 
 -- What a far read of code answers is a part of its file's bytes, relocated: also where the code was discarded and is fetched for it.
 abbrev pub CodeReadsLaw : (honest : Type 0) → Type 0
 CodeReadsLaw honest = (format : Format) (old new : LoadingWorld) (pointer count : ℕ) (bytes : List ℕ) (slot handle number : ℕ) (m : Module) → honest
     → IsLoadingWorld old → IsOfFiles format old
-    → StepOver honest format old (OfFar (Read pointer count)) (Bytes bytes) new
+    → StepOver honest format old (any _ (Read pointer count)) (Bytes bytes) new
     → slot_of_selector old.handles (selector_in pointer) ≡ Some slot → IsSegmentOf old slot handle number m → is_code old slot ≡ true
     → IsSomeAnd (segment_bytes format old m number) (λ image. bytes ≡ part image (offset_in pointer) count)
 

@@ -1,7 +1,9 @@
 -- What is printed of an answer, whichever family of commands gave it.
 use Rattle.std.specs.Prelude.{ℕ, List, IsSomeAnd, Option, Some, None}
-use Rattle.w16_model.specs.{declared.FarFault.FarFault, Calls.HandleCommand, Calls.HandleStep, Handles.Handles}
-use Rattle.w16_loading.specs.{declared.FetchFault.FetchFault, Resizes.ResizeCommand, Resizes.ResizeStep}
+use Rattle.w16_model.specs.{declared.FarFault.FarFault, Calls.HandleStep, Handles.Handles}
+use Rattle.w16_model.specs.Commands.{Command}
+use Rattle.w16_model.specs.Commands.Family.{OfHandles, OfResizes}
+use Rattle.w16_loading.specs.{declared.FetchFault.FetchFault, Resizes.ResizeStep}
 use Rattle.w16_model.specs.Calls as calls
 
 pub data Reply : Type 0 where
@@ -23,8 +25,8 @@ answer_in (Walked count) = Some (calls.Answer.Walked count)
 answer_in other = None
 
 -- a step of a family, its answer being the one that a reply prints
-abbrev pub HandleReplies : Handles → HandleCommand → Reply → Handles → Type 0
+abbrev pub HandleReplies : Handles → Command OfHandles → Reply → Handles → Type 0
 HandleReplies old command reply new = IsSomeAnd (answer_in reply) (λ answer. HandleStep old command answer new)
 
-abbrev pub ResizeReplies : Handles → ResizeCommand → Reply → Handles → Type 0
+abbrev pub ResizeReplies : Handles → Command OfResizes → Reply → Handles → Type 0
 ResizeReplies old command reply new = IsSomeAnd (answer_in reply) (λ answer. ResizeStep old command answer new)

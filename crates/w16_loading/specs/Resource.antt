@@ -3,7 +3,8 @@ use Rattle.w16_loading.specs
 use Rattle.std.specs.Prelude.{◌≡◌, ℕ, ◌+◌, ◌-◌, ◌⊎◌, ◌==◌, ◌||◌, ◌&&◌, Bool, false, if◌then◌else◌, MatchBool, nat_lt, find, position, Option, Some, None, MatchOption, option_map, unwrap_or}
 use Rattle.w16_model.specs.{Heap.bytes_at, Changes.with_object, declared.Attributes.Attributes, Handles.IsFreeSlot, Handles.handle_of, Handles.slot_of_handle, Calls.rounded_size, Calls.global_lock, Calls.locks_at}
 use specs.declared.TheConstants.{MOST_USES, LARGEST_OWNED}
-use specs.File.{Label, Resource, is_label, numbered}
+use specs.File.{Resource, is_label, numbered}
+use Rattle.w16_model.specs.Commands.{Label}
 use specs.Modules.{LoadingWorld, Load, module_at}
 use specs.Replies.Reply.{Word, Dword, Walked, Failed}
 use specs.{declared.FetchFault.FetchFault, Replies.Reply, Fetch.Fetching, Fetch.outcome_in, Release.without_objects}

@@ -62,8 +62,11 @@ module _ {handles : Handles} {tables : FinMap nat_cmp Table} {ds name slot : ℕ
     abbrev Sizes : World → ℕ → World → C.LocalObject → Type 0
     Sizes old answer new o = MatchBool (size == 0) (DiscardsObject old name flags answer new o) (C.SizesObject old size flags answer new o)
 
+    abbrev Reallocates : ℕ → Handles → FinMap nat_cmp Table → Type 0
+    Reallocates answer next new = Calls handles tables ds (LocalReAlloc name size flags) answer next new
+
     pub modify_calls : has_flag flags LMEM_MODIFY ≡ true → {X : Type 0} (r : Result X Refusal) (new : FinMap nat_cmp Table) → C.Stepped tables slot (λ a b. C.after_modify a id (moveable_or_discardable flags) ≡ outcome r b) new → OnErr r (new ≡ tables)
-        → Calls handles tables ds (LocalReAlloc name size flags) name handles new
+        → Reallocates name handles new
     modify_calls f r new s same rest = on_named n rest _ _ _ _
         (rw f (leaves n rest (λ h. C.after_modify h id (moveable_or_discardable flags)) r new s same (λ _. name) (λ _. name) name (told r)))
       where
@@ -72,10 +75,10 @@ module _ {handles : Handles} {tables : FinMap nat_cmp Table} {ds name slot : ℕ
         told (Err e) = refl
 
     module _ (f : has_flag flags LMEM_MODIFY ≡ false) (answer : ℕ) (next : Handles) (new : FinMap nat_cmp Table) where
-      not_modified : ((rest : World) → Sizes (with_parts rest handles tables ds) answer (with_parts rest next new ds) named_object) → Calls handles tables ds (LocalReAlloc name size flags) answer next new
+      not_modified : ((rest : World) → Sizes (with_parts rest handles tables ds) answer (with_parts rest next new ds) named_object) → Reallocates answer next new
       not_modified so rest = on_named n rest _ _ _ _ (rw f (so rest))
 
-      pub resize_calls : 0 < size → InSlot handles tables slot next new (λ old at left. Served (resize id size flags) old at answer left) → Calls handles tables ds (LocalReAlloc name size flags) answer next new
+      pub resize_calls : 0 < size → InSlot handles tables slot next new (λ old at left. Served (resize id size flags) old at answer left) → Reallocates answer next new
       resize_calls some s = not_modified (λ rest.
           rw (ne_eqb size 0 (λ e. absurd (omega (arith, e, some))))
           (elim (acting.held_here n.heap s rest) [
@@ -93,20 +96,20 @@ module _ {handles : Handles} {tables : FinMap nat_cmp Table} {ds name slot : ℕ
           sizes heap acts = acts_as (C.ResizesObject heap id size flags answer) acts (record { resized = acts.acted.0; named = acts.acted.1 })
 
       module _ (none : size ≡ 0) where
-        of_none : ((rest : World) → DiscardsObject (with_parts rest handles tables ds) name flags answer (with_parts rest next new ds) named_object) → Calls handles tables ds (LocalReAlloc name size flags) answer next new
+        of_none : ((rest : World) → DiscardsObject (with_parts rest handles tables ds) name flags answer (with_parts rest next new ds) named_object) → Reallocates answer next new
         of_none so = not_modified (λ rest. rw (eq-eqb size 0 none) (so rest))
 
     module _ (f : has_flag flags LMEM_MODIFY ≡ false) (none : size ≡ 0) where
-      pub discard_calls : has_flag flags LMEM_MOVEABLE ≡ true → {answer : ℕ} {next : Handles} {new : FinMap nat_cmp Table} → ActedIn handles tables slot (DoesAct (C.Discard id) answer) next new → Calls handles tables ds (LocalReAlloc name size flags) name next new
+      pub discard_calls : has_flag flags LMEM_MOVEABLE ≡ true → {answer : ℕ} {next : Handles} {new : FinMap nat_cmp Table} → ActedIn handles tables slot (DoesAct (C.Discard id) answer) next new → Reallocates name next new
       discard_calls m a = of_none f _ _ _ none (λ rest. rw m (elim (acting.outcome n.heap a rest) [
         | inl same ↦ absurd same.0
         | inr acts ↦ gives_up (after_discard before id) name 0 acts
       ]))
 
-      pub discard_refused : has_flag flags LMEM_MOVEABLE ≡ true → is_ok (after_discard before id) ≡ false → Calls handles tables ds (LocalReAlloc name size flags) 0 handles tables
+      pub discard_refused : has_flag flags LMEM_MOVEABLE ≡ true → is_ok (after_discard before id) ≡ false → Reallocates 0 handles tables
       discard_refused m e = of_none f _ _ _ none (λ rest. rw m (gives_none _ _ (after_discard before id) name 0 e))
 
-      pub discard_unasked : has_flag flags LMEM_MOVEABLE ≡ false → Calls handles tables ds (LocalReAlloc name size flags) 0 handles tables
+      pub discard_unasked : has_flag flags LMEM_MOVEABLE ≡ false → Reallocates 0 handles tables
       discard_unasked m = of_none f _ _ _ none (λ rest. rw m (refl, refl))
 
 -- a size in whole grains may be asked for

@@ -2,7 +2,9 @@
 use Rattle.std.specs.Prelude.{◌≡◌, ◌<◌, ◌≤◌, ℕ, List, [], length, All, Some, IsSome}
 use Rattle.std.specs.{Ordering.nat_cmp, FinMap.FinMap}
 use Rattle.w16_model.specs.{Handles.Handles, Heap.bytes_at, Table.Table, Table.heap_in}
-use Rattle.w16_loading.specs.{Modules.with_handles, Families.LocalCommand}
+use Rattle.w16_loading.specs.{Modules.with_handles}
+use Rattle.w16_model.specs.Commands.{Command}
+use Rattle.w16_model.specs.Commands.Family.{OfLocals}
 use Rattle.w16_machine.specs.{World.World, Law.empty_world, Local.IsLocalTable, Local.beginning, Local.current_heap, Local.id_named, LocalCalls.Answers}
 use Rattle.std.specs.FinMap as finmap
 
@@ -15,7 +17,7 @@ abbrev pub alone : Handles → FinMap nat_cmp Table → ℕ → World
 alone handles tables ds = with_parts (empty_world 0 0 [] 0) handles tables ds
 
 -- a call is answered so, and leaves these handles and tables
-abbrev pub Calls : Handles → FinMap nat_cmp Table → ℕ → LocalCommand → ℕ → Handles → FinMap nat_cmp Table → Type 0
+abbrev pub Calls : Handles → FinMap nat_cmp Table → ℕ → Command OfLocals → ℕ → Handles → FinMap nat_cmp Table → Type 0
 Calls handles tables ds command answer next left = (rest : World) → Answers (with_parts rest handles tables ds) command answer (with_parts rest next left ds)
 
 -- a local heap may begin there, in whatever world has these parts

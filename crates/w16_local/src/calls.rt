@@ -1,7 +1,7 @@
 //! The calls that make local objects, give them another size or kind, discard and free them, and make room.
 ghost use Rattle.std.specs.Prelude.{◌≡◌, Some};
 ghost use Rattle.w16_machine.specs.Local.{IsLowestFree, heap_of, id_named};
-ghost use Rattle.w16_loading.specs.Families.LocalCommand.{LocalAlloc, LocalCompact, LocalDiscard, LocalFree, LocalReAlloc};
+ghost use Rattle.w16_model.specs.Commands.Command.{LocalAlloc, LocalReAlloc, LocalDiscard, LocalFree, LocalCompact};
 ghost use Rattle.w16_local.specs.Acts.{IsLentOnce};
 ghost use Rattle.w16_local.specs.Growth.{IsLentOrGrown};
 ghost use Rattle.w16_local.specs.Fewest.{AllocsFewest, CompactionsFewest, InWorlds, ReallocsFewest};

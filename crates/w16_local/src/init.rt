@@ -4,7 +4,7 @@ ghost use Rattle.std.specs.FinMap as finmap;
 ghost use Rattle.w16_model.specs.Heap.{IsMultiple};
 ghost use Rattle.w16_machine.specs.declared.local.TheConstants.{LAST_LOCAL_END, LOCAL_GRAIN};
 ghost use Rattle.w16_machine.specs.Local as local;
-ghost use Rattle.w16_loading.specs.Families.LocalCommand.{LocalInit};
+ghost use Rattle.w16_model.specs.Commands.Command.{LocalInit};
 ghost use Rattle.w16_local.specs.Kept.{IsListed};
 ghost use Rattle.w16_local.specs.Parts.{Calls, MayBegin, alone};
 

@@ -2,7 +2,7 @@
 ghost use Rattle.std.specs.Prelude.{◌≡◌, OnErr, IsSomeAnd, if◌then◌else◌, nat_lt};
 ghost use Rattle.std.specs.FinMap as finmap;
 ghost use Rattle.w16_machine.specs.LocalCalls as calls;
-ghost use Rattle.w16_loading.specs.Families.LocalCommand.{LocalLock, LocalUnlock};
+ghost use Rattle.w16_model.specs.Commands.Command.{LocalLock, LocalUnlock};
 ghost use Rattle.w16_local.specs.Parts.{Calls};
 ghost use Rattle.w16_local.specs.Steps.{MayStep, Stepped, after_step, outcome, answer_of};
 

@@ -1,30 +1,34 @@
 -- What each step spares, and so each step of a run.
 use Rattle.w16_machine.proofs
 use proofs.Common.{◌≡◌, ◌≢◌, ℕ, ◌⊎◌, inl, inr, true, List, Option, Some, None, IsSomeAnd, option_map, refl, sym, ap, ◌∙◌, subst, cases_Bool, cases_eq, Object, object_at, is_pinned_object, StandsStill, Table, bytes_in, Command, Format, Reply, Word, Done, bystanders_law, pinned_law}
-use proofs.Common.{World, IsWorld, LocalHeap, heap_of, local_in, current_heap, segment_bytes, LocalCommand, LocalStep, DS, HasSameObjects, IsHeapKept, IsLocalKept, IsObjectKept, IsRewritten, KeepsRest, asks_for_room, but_bytes, may_move_named, LoadingStep, OfLocals, IsLocalAbout}
+use proofs.Common.{World, IsWorld, LocalHeap, heap_of, local_in, current_heap, segment_bytes, LocalStep, DS, HasSameObjects, IsHeapKept, IsLocalKept, IsObjectKept, IsRewritten, KeepsRest, asks_for_room, but_bytes, may_move_named, LoadingStep, OfLocals, IsLocalAbout}
+use Rattle.w16_model.specs.Commands.{Command}
+use Rattle.w16_loading.specs.Families.{AnyCommand}
+use Rattle.w16_model.specs.Commands.Family.{OfLocals}
 use proofs.Common.{IsLocalSpared, StepSparesLaw, ◌<◌, is_some, bytes_at, Discardable, IsHeapLeft, IsLeftByGrowth, IsLengthened, KeepsRestLonger, length}
 use proofs.LocalFacts.{IsThere, current_there, local_there, object_of, there_local, found}
 use proofs.LocalOthers.{local_others_law, local_pinned_law, stands_same}
 use proofs.LocalOutcomes.{Outcome, outcome}
 use proofs.{LocalFar.same_heaps, LocalFrame.frame_law, LocalGoes.goes_law, LocalGoes.left_inside, LocalLeft.left_is, LocalLonger.leaves_longer}
-use Rattle.w16_machine.specs.Bystanders.{IsSpared}
+use Rattle.w16_machine.specs.Bystanders.{IsSpared, KeepsDS}
 use Rattle.std.specs.FinMap as finmap
+use Rattle.w16_loading.specs.Families.AnyCommand.{any}
 
 -- DS.
-outcome_ds : (old new : World) (command : LocalCommand) (answer : ℕ) → Outcome old command answer new → new.ds ≡ old.ds
+outcome_ds : (old new : World) (command : Command OfLocals) (answer : ℕ) → Outcome old command answer new → new.ds ≡ old.ds
 outcome_ds old new command answer (inl same) = ap (λ w. w.ds) same
 outcome_ds old new command answer (inr (inl init)) = ap (λ w. w.ds) init.rest
 outcome_ds old new command answer (inr (inr (at, c, inl (next, stepped, becomes)))) = ap (λ w. w.ds) becomes.rest
 outcome_ds old new command answer (inr (inr (at, c, inr (inl acts)))) = ap (λ w. w.ds) acts.rest
 outcome_ds old new command answer (inr (inr (at, c, inr (inr g)))) = ap (λ w. w.ds) g.grows.grown.rest
 
-local_ds : (old new : World) (command : LocalCommand) (reply : Reply) → LocalStep old command reply new → ((selector : ℕ) → OfLocals command ≡ OfLocals (DS selector) → ⊥) → new.ds ≡ old.ds
+local_ds : (old new : World) (command : Command OfLocals) (reply : Reply) → LocalStep old command reply new → KeepsDS old (any OfLocals command) new
 local_ds old new (DS selector) Done step other = absurd (other _ refl)
 local_ds old new command (Word answer) step other = outcome_ds old new command answer (outcome old _ _ new step)
 local_ds old new command reply step other = absurd step
 
 -- A step of loading leaves each local heap that stays its table.
-module _ (honest : Type 0) (format : Format) (old new : World) (command : Command) (reply : Reply) (is : IsWorld old) (step : LoadingStep honest format old command reply new) (slot : ℕ) (at after : LocalHeap) (e : local_in old slot ≡ Some at) (f : local_in new slot ≡ Some after) where
+module _ (honest : Type 0) (format : Format) (old new : World) (command : AnyCommand) (reply : Reply) (is : IsWorld old) (step : LoadingStep honest format old command reply new) (slot : ℕ) (at after : LocalHeap) (e : local_in old slot ≡ Some at) (f : local_in new slot ≡ Some after) where
   same_table : after.table ≡ at.table
   same_table =
       let was : IsThere old at × (at.slot ≡ slot) = local_there old slot at e in
@@ -36,7 +40,7 @@ module _ (honest : Type 0) (format : Format) (old new : World) (command : Comman
   stays_same = same_heaps old new is.heaps at after (local_there old slot at e).0 (local_there new slot after f).0 same_table
 
 -- A local call, and a local heap that stays.
-module _ (old new : World) (command : LocalCommand) (reply : Reply) (is : IsWorld old) (step : LocalStep old command reply new) (slot : ℕ) (at after : LocalHeap) (e : local_in old slot ≡ Some at) (f : local_in new slot ≡ Some after) where
+module _ (old new : World) (command : Command OfLocals) (reply : Reply) (is : IsWorld old) (step : LocalStep old command reply new) (slot : ℕ) (at after : LocalHeap) (e : local_in old slot ≡ Some at) (f : local_in new slot ≡ Some after) where
   frame : KeepsRest old new ⊎ KeepsRestLonger old command new
   frame = frame_law old new command reply is.heaps step
 
@@ -119,13 +123,13 @@ module _ (old new : World) (command : LocalCommand) (reply : Reply) (is : IsWorl
   chosen_after = ap (local_in new) (local_there old slot at e).1 ∙ f
 
   module _ (q : ℕ) (o : Object) (there : object_at (heap_of at) q ≡ Some o) where
-    local_spared : (IsLocalAbout old (OfLocals command) at q → ⊥) → IsLocalSpared old (OfLocals command) at after q o
+    local_spared : (IsLocalAbout old (any OfLocals command) at q → ⊥) → IsLocalSpared old (any OfLocals command) at after q o
     local_spared other = elim current_or_other [
       | inl c ↦ by_room c (local_others_law old new command reply at after q o is.heaps step c chosen_after there (λ name asked named. other (c, (name, asked, named))))
       | inr d ↦ inl (ap (λ (h : LocalHeap). option_map but_bytes (object_at (heap_of h) q)) (other_same d) ∙ ap (option_map but_bytes) there)
     ]
       where
-        by_room : current_heap old ≡ Some at → IsLocalKept (asks_for_room command) (heap_of at) (heap_of after) q o → IsLocalSpared old (OfLocals command) at after q o
+        by_room : current_heap old ≡ Some at → IsLocalKept (asks_for_room command) (heap_of at) (heap_of after) q o → IsLocalSpared old (any OfLocals command) at after q o
         by_room c kept = elim (cases_Bool (asks_for_room command)) [
           | inl asks ↦ elim kept.object [
             | inl same ↦ inl (ap (option_map but_bytes) same)
@@ -134,15 +138,15 @@ module _ (old new : World) (command : LocalCommand) (reply : Reply) (is : IsWorl
           | inr asks ↦ inl (ap (option_map but_bytes) (kept.still asks).0)
         ]
 
-    local_stands : is_pinned_object o ≡ true → (may_move_named command ≡ true → IsLocalAbout old (OfLocals command) at q → ⊥) → StandsStill (heap_of at) (heap_of after) q
+    local_stands : is_pinned_object o ≡ true → (may_move_named command ≡ true → IsLocalAbout old (any OfLocals command) at q → ⊥) → StandsStill (heap_of at) (heap_of after) q
     local_stands pinned unmoved = elim current_or_other [
       | inl c ↦ local_pinned_law old new command reply at after q o is.heaps step c chosen_after there pinned (λ may name asked named. unmoved may (c, (name, asked, named)))
       | inr d ↦ stands_same (heap_of at) (heap_of after) q (ap (λ (h : LocalHeap). finmap.get (heap_of h).places q) (other_same d))
     ]
 
 -- what a local call spares of the global heap
-module _ (old new : World) (command : LocalCommand) (is : IsWorld old) (q : ℕ) where
-  object_spared : is_some (object_at old.loading.handles.heap q) ≡ true → KeepsRest old new ⊎ KeepsRestLonger old command new → IsSpared old (OfLocals command) new q
+module _ (old new : World) (command : Command OfLocals) (is : IsWorld old) (q : ℕ) where
+  object_spared : is_some (object_at old.loading.handles.heap q) ≡ true → KeepsRest old new ⊎ KeepsRestLonger old command new → IsSpared old (any OfLocals command) new q
   object_spared there (inl k) = inl (k.objects q)
   object_spared there (inr r) = inr (r.may, (leaves_longer old new command is.heaps r).objects q there)
 
@@ -151,7 +155,7 @@ module _ (old new : World) (command : LocalCommand) (is : IsWorld old) (q : ℕ)
   object_stands pinned (inr r) = (leaves_longer old new command is.heaps r).pinned q pinned
 
 pub step_spares_law : (honest : Type 0) → StepSparesLaw honest
-step_spares_law honest format old new (OfLocals command) reply is step = record {
+step_spares_law honest format old new (any OfLocals command) reply is step = record {
   ds = λ other. local_ds old new command reply step other;
   bytes = record {
     objects = λ q there other. object_spared old new command is q there (frame_law old new command reply is.heaps step);

@@ -5,10 +5,14 @@ pub use Rattle.std.proofs.lemmas.List.{length-replicate}
 pub use Rattle.w16_loading.proofs.Begun.{empty_of_files_law}
 pub use Rattle.w16_loading.proofs.Bystanders.{bystanders_law, pinned_law}
 pub use Rattle.w16_loading.proofs.CodeLaw.{code_law}
-pub use Rattle.w16_loading.proofs.Common.{Accesses, All, All-from_Each, AllPairs-from_EachPair, Allocates, AllocatesFewest, AreHandles, AreNew, Asked, Bool, BuiltIn, Builtin, Calls, Dword, Each-at, Each-from_All, Failed, FamilyStep, FarAnswer, FarCommand}
-pub use Rattle.w16_loading.proofs.Common.{Fill, FinMap, FindResource, Format, GetModuleHandle, GetModuleUsage, GetProcAddress, GlobalReAlloc, HandleCommand, HandleReplies, Handles, Heap, IfOk, IfSome, IsBlockOf, IsHeap, IsCommand, IsLoadingWorld}
-pub use Rattle.w16_loading.proofs.Common.{IsNew, IsOfFiles, IsSomeAnd, KeepsOthers, List, Command, LoadingWorld, MatchBool, MatchOption, Member, ModuleCommand}
-pub use Rattle.w16_loading.proofs.Common.{ModuleStep, Object, OfFar, OfHandles, OfModules, OfResizes, OfResources, Reached, Reply, ResizeCommand, ResizeReplies, ResourceCommand, ResourceStep, Settles, SizeofResource, StandsStill, Word, Write, [], absent, address_law}
+pub use Rattle.w16_loading.proofs.Common.{Accesses, All, All-from_Each, AllPairs-from_EachPair, Allocates, AllocatesFewest, AreHandles, AreNew, Asked, Bool, BuiltIn, Builtin, Calls, Dword, Each-at, Each-from_All, Failed, FamilyStep, FarAnswer}
+pub use Rattle.w16_model.specs.Commands.{Command}
+pub use Rattle.w16_loading.specs.Families.{AnyCommand}
+pub use Rattle.w16_model.specs.Commands.Family.{OfHandles, OfResizes, OfFar, OfModules, OfResources, OfLocals}
+pub use Rattle.w16_model.specs.Commands.Command.{LocalInit, LocalAlloc, LocalReAlloc, LocalDiscard, LocalFree, LocalLock, LocalUnlock, LocalSize, LocalFlags, LocalHandle, LocalCompact, DS}
+pub use Rattle.w16_loading.proofs.Common.{Fill, FinMap, FindResource, Format, GetModuleHandle, GetModuleUsage, GetProcAddress, GlobalReAlloc, HandleReplies, Handles, Heap, IfOk, IfSome, IsBlockOf, IsHeap, IsCommand, IsLoadingWorld}
+pub use Rattle.w16_loading.proofs.Common.{IsNew, IsOfFiles, IsSomeAnd, KeepsOthers, List, Command, LoadingWorld, MatchBool, MatchOption, Member}
+pub use Rattle.w16_loading.proofs.Common.{ModuleStep, Object, OfFar, OfHandles, OfModules, OfResizes, OfResources, Reached, Reply, ResizeReplies, ResourceStep, Settles, SizeofResource, StandsStill, Word, Write, [], absent, address_law}
 pub use Rattle.w16_loading.proofs.Common.{after_touch, after_write, allocation_law, and_parts, answer_in, ap, arith, blocks, bytes_at, bytes_in, call_outcome, cases_Bool, cases_eq, cond, contents, discarded, discards_needed, eligible, entries_sorted}
 pub use Rattle.w16_loading.proofs.Common.{eq-eqb, eqb-true, false, false≢true, far_at, far_bytes, far_fault, far_slot, found_member, get-empty, get-entries, get-retain_keys, get-update_other, get-update_same, get_or, gives}
 pub use Rattle.w16_loading.proofs.Common.{handle_named, inl, inr, inserted_here, inserted_other, is_fixed, is_in_order, is_member, is_pinned_object, is_some, keys_rise, length, length-put_part, ltb-true, member_found, module_at, nat_cmp, nat_cmp-IsAntisymmetric}
@@ -33,19 +37,15 @@ pub use Rattle.w16_loading.specs.Law.{IsCommand}
 pub use Rattle.w16_machine.specs.Local.{Acts, Becomes, Beginning, IsLocalTable, IsLowestFree, LocalHeap, LocalObject, Stays, beginning, beginning_in, current_heap, has_range, heap_of, id_at}
 pub use Rattle.w16_machine.specs.Local.{id_named, is_name, is_range, left_in, local_in, local_of, name_at, name_of, new_table, object_named, range_in, rounded_down, rounded_up, segment_bytes, selector_or_ds, with_local, with_table}
 pub use Rattle.w16_machine.specs.LocalCalls.{AllocatesIn, AllocatesObject, Answers, CompactsIn, DiscardsObject, EntersObject, GivesUp, HasNoEntry, HasNoRoom, IsEmptyFixed, IsRefusedAlloc, Leaves, LocalInits, LocalStep}
-pub use Rattle.w16_loading.specs.Families.{LocalCommand}
 pub use Rattle.w16_machine.specs.LocalCalls.{MakesObject, ModifiesObject, OnNamed, ResizesObject, SizesObject, is_absent_asked, local_flags_of, local_kind, local_options, lock_refused, locks_left, moveable_or_discardable, near_pointer}
-pub use Rattle.w16_loading.specs.Families.LocalCommand.{DS, LocalAlloc, LocalCompact, LocalDiscard, LocalFlags, LocalFree, LocalHandle, LocalInit, LocalLock, LocalReAlloc, LocalSize, LocalUnlock}
 pub use Rattle.w16_machine.specs.LocalFewest.{AllocFewest, AllocLaw, AllocatedFewest, CompactLaw, GrowsFewest, IsRefusedSize, LacksBytes, LacksGrowth, Left, ReallocFewest, ReallocLaw, ReallocatedFewest}
 pub use Rattle.w16_machine.specs.LocalGrowth.{Grows, IsGrowth, IsLongerSize, Lengthens, OnceLonger, StaysShort, growth_flags, longer, with_longer}
 pub use Rattle.w16_machine.specs.LocalLaw.{IsHeapLeft, IsLeftByGrowth, IsLengthened, KeepsRestLonger, LeavesLonger, flags_in, may_grow, BeginLaw, FrameLaw}
 pub use Rattle.w16_machine.specs.LocalLaw.{GoesLaw, HasSameObjects, IsHeapKept, IsLocalKept, IsNamedBy, IsObjectKept, IsRewritten, KeepsRest, MayBegin, NamesLaw}
 pub use Rattle.w16_machine.specs.LocalLaw.{NewHeapLaw, OthersLaw, PinnedLaw, asks_for_room, but_bytes, may_move_named, named_by}
 pub use Rattle.w16_machine.specs.LocalStays.{HasSamePlaces, HeapsLaw, LocalSamePlacesLaw, SamePlacesLaw, kind_at, size_at}
-pub use Rattle.w16_machine.specs.Columns.{may_take_bytes}
+pub use Rattle.w16_machine.specs.Rows.{may_take_bytes}
 pub use Rattle.w16_machine.specs.Machine.{Event, LoadingStep, Run, Step, after_loading}
-pub use Rattle.w16_loading.specs.Families.{Command}
-pub use Rattle.w16_loading.specs.Families.Command.{OfLocals}
 pub use Rattle.w16_machine.specs.World.{World}
 pub use Rattle.w16_machine.specs.declared.local.TheConstants.{LAST_LOCAL_END, LMEM_MODIFY, LMEM_MOVEABLE, LMEM_NOCOMPACT, LOCAL_ENTRIES, LOCAL_GRAIN}
 pub use Rattle.w16_model.proofs.Absence.{discard_absent, discard_is}

@@ -4,13 +4,14 @@ use proofs.Common as C
 use proofs.Common.{◌≡◌, subst, Format, Reply, Word, Dword, World, Event, Command, Step}
 use proofs.LocalFewest.{local_alloc_law, local_compact_law, local_realloc_law}
 use proofs.Stepped.{call_replies, loading_part, resize_replies}
+use Rattle.w16_loading.specs.Families.{AnyCommand}
 use Rattle.w16_loading.proofs.Requests.{any_requests_fewest}
 
 -- the same step, told with its command, and with its reply
-asked : (honest : Type 0) (format : Format) (old : World) (event : Event) {command : Command} → event.command ≡ command → Step honest format old event.command event.reply event.after → Step honest format old command event.reply event.after
+asked : (honest : Type 0) (format : Format) (old : World) (event : Event) {command : AnyCommand} → event.command ≡ command → Step honest format old event.command event.reply event.after → Step honest format old command event.reply event.after
 asked honest format old event c step = subst (λ asked. Step honest format old asked event.reply event.after) c step
 
-told : (honest : Type 0) (format : Format) (old : World) (event : Event) {command : Command} {reply : Reply} → event.command ≡ command → event.reply ≡ reply → Step honest format old event.command event.reply event.after
+told : (honest : Type 0) (format : Format) (old : World) (event : Event) {command : AnyCommand} {reply : Reply} → event.command ≡ command → event.reply ≡ reply → Step honest format old event.command event.reply event.after
     → Step honest format old command reply event.after
 told honest format old event {command} c r step = subst (λ answer. Step honest format old command answer event.after) r (asked _ format old event c step)
 

@@ -7,7 +7,7 @@ use Rattle.w16_loading.specs.Answers.{StepOver}
 use Rattle.std.specs.FinMap as finmap
 
 -- A step of loading leaves no local heap in code: where one is left there was one, in an object that was none, and no such object becomes code.
-module _ (honest : Type 0) (format : C.Format) (old new : World) (is : C.IsWorld old) (command : C.Command) (reply : Reply) (step : StepOver honest format old.loading command reply new.loading) (rest : new ≡ C.after_loading old new.loading) where
+module _ (honest : Type 0) (format : C.Format) (old new : World) (is : C.IsWorld old) (command : C.AnyCommand) (reply : Reply) (step : StepOver honest format old.loading command reply new.loading) (rest : new ≡ C.after_loading old new.loading) where
   still : (p : Option Owned) (r : Option Owned) → (r ≡ p) ⊎ (r ≡ None) → unwrap_or (option_map (λ (o : Owned). o.code) p) false ≡ false → unwrap_or (option_map (λ (o : Owned). o.code) r) false ≡ false
   still p r (inl same) e = ap (λ p. unwrap_or (option_map (λ (o : Owned). o.code) p) false) same ∙ e
   still p r (inr none) e = ap (λ p. unwrap_or (option_map (λ (o : Owned). o.code) p) false) none

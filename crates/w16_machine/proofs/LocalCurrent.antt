@@ -1,7 +1,9 @@
 -- What a local call makes of the heap that DS names.
 use Rattle.w16_machine.proofs
 use proofs.Common as C
-use proofs.Common.{◌≡◌, ℕ, inl, inr, Option, Some, None, refl, sym, ap, ◌∙◌, subst, Heap, Table, heap_in, Reply, Word, Done, World, LocalHeap, heap_of, local_in, current_heap, LocalCommand, DS, ending, true, local_options}
+use proofs.Common.{◌≡◌, ℕ, inl, inr, Option, Some, None, refl, sym, ap, ◌∙◌, subst, Heap, Table, heap_in, Reply, Word, Done, World, LocalHeap, heap_of, local_in, current_heap, DS, ending, true, local_options}
+use Rattle.w16_model.specs.Commands.{Command}
+use Rattle.w16_model.specs.Commands.Family.{OfLocals}
 use proofs.LocalFacts.{IsThere, current_there, there_local, heap_here, acted_there, became_there}
 use proofs.LocalBegins.{begin_law}
 use proofs.LocalGrown.{grown_there, grown_world, longer_is}
@@ -16,7 +18,7 @@ in_place P new slot after mine e now placed holds =
     subst (λ h. P (heap_of h)) is_after holds
 
 -- what holds once room is made in the heap, which then ends later, holds where it grew for that
-pub grown_becomes : (old : World) → C.AreLocalHeaps old → (at : LocalHeap) → current_heap old ≡ Some at → (command : LocalCommand) (new : World) (P : Heap → Type 0)
+pub grown_becomes : (old : World) → C.AreLocalHeaps old → (at : LocalHeap) → current_heap old ≡ Some at → (command : Command OfLocals) (new : World) (P : Heap → Type 0)
     → ((answer : ℕ) (next : Heap) (end : ℕ) → C.asks_for_room command ≡ true → C.IsHeap (ending (heap_of at) end) → IsMade (heap_of at) (ending (heap_of at) end) command answer next → P next)
     → (answer : ℕ) (after : LocalHeap) → local_in new at.slot ≡ Some after → IsGrown old command answer new at → P (heap_of after)
 grown_becomes old is at c command new P made answer after e g =
@@ -42,7 +44,7 @@ module _ (old : World) (at : LocalHeap) (c : current_heap old ≡ Some at) (P : 
   taken : ◌≡◌ {A = Option Table} (Some at.table) None → ⊥
   taken e = cc
 
-  module _ (command : LocalCommand) (answer : ℕ) (stepped : (next : Heap) → IsStepped (heap_of at) command next → P next) (roomed : (next : Heap) → IsRoomed (heap_of at) command answer next → P next)
+  module _ (command : Command OfLocals) (answer : ℕ) (stepped : (next : Heap) → IsStepped (heap_of at) command next → P next) (roomed : (next : Heap) → IsRoomed (heap_of at) command answer next → P next)
       (new : World) (grown : (after : LocalHeap) → local_in new at.slot ≡ Some after → IsGrown old command answer new at → P (heap_of after)) where
     done : (after : LocalHeap) → local_in new at.slot ≡ Some after → IsDone old command answer new at → P (heap_of after)
     done after e (inl (next, is, becomes)) =
@@ -67,7 +69,7 @@ module _ (old : World) (at : LocalHeap) (c : current_heap old ≡ Some at) (P : 
         done after e (subst (IsDone old command answer new) is_by did)
 
 -- what holds of it before, and after each thing that the call may do in it, holds of what is left
-pub current_becomes : (old : World) (at : LocalHeap) → current_heap old ≡ Some at → (command : LocalCommand) (reply : Reply) (new : World) (P : Heap → Type 0) → P (heap_of at)
+pub current_becomes : (old : World) (at : LocalHeap) → current_heap old ≡ Some at → (command : Command OfLocals) (reply : Reply) (new : World) (P : Heap → Type 0) → P (heap_of at)
     → ((next : Heap) → IsStepped (heap_of at) command next → P next) → ((answer : ℕ) (next : Heap) → IsRoomed (heap_of at) command answer next → P next)
     → ((answer : ℕ) (after : LocalHeap) → local_in new at.slot ≡ Some after → IsGrown old command answer new at → P (heap_of after))
     → (after : LocalHeap) → local_in new at.slot ≡ Some after → C.LocalStep old command reply new → P (heap_of after)

@@ -69,7 +69,7 @@ module _ (old : Handles) (selector offset : ℕ) where
       turn true = record { addresses = refl; attributes = refl; kinds = λ q. refl; sizes = λ q. refl }
       turn false = data_same slice
 
-far_same : (old new : Handles) (command : C.FarCommand) (answer : FarAnswer) → C.FarStep old command answer new → HasSamePlaces old new
+far_same : (old new : Handles) (command : C.Command C.OfFar) (answer : FarAnswer) → C.FarStep old command answer new → HasSamePlaces old new
 far_same old new (Read pointer count) answer step = subst (HasSamePlaces old) (sym step.1) (read_same old _ _ count)
 far_same old new (Write pointer bytes) answer step = subst (HasSamePlaces old) (sym step.1) (write_same old (selector_in pointer) (offset_in pointer) bytes)
 far_same old new (Fill pointer count byte) answer step = subst (HasSamePlaces old) (sym step.1) (write_same old (selector_in pointer) (offset_in pointer) (C.repeated count byte))
@@ -104,9 +104,9 @@ left_same (Some t) (Some before) (Some after) h e =
     let same : length after ≡ length before = cc in
     ap (λ l. cond {A = Option _} l (Some t) None) (C.le-leb _ _ (omega (arith, same, h.1)))
 
-pub far_reply : (old new : Handles) (command : C.FarCommand) (answer : Option FarAnswer) → C.IsSomeAnd answer (λ answer. C.FarStep old command answer new) → HasSamePlaces old new
+pub far_reply : (old new : Handles) (command : C.Command C.OfFar) (answer : Option FarAnswer) → C.IsSomeAnd answer (λ answer. C.FarStep old command answer new) → HasSamePlaces old new
 far_reply old new command None h = absurd h
-far_reply old new command (Some answer) h = far_same old new _ _ h
+far_reply old new command (Some answer) h = far_same old new command answer h
 
 -- so all are left where each object has as many
 pub tables_stay : (old new : World) → C.AreLocalHeaps old → new ≡ C.after_loading old new.loading → HasSamePlaces old.loading.handles new.loading.handles → new.heaps ≡ old.heaps

@@ -60,7 +60,7 @@ module _ (old : World) (at : LocalHeap) (c : current_heap old ≡ Some at) where
   }
 
 -- where a heap grew for a call
-module _ (old new : World) (is : C.AreLocalHeaps old) (command : C.LocalCommand) (answer : ℕ) (at : LocalHeap) (c : current_heap old ≡ Some at) (g : IsGrown old command answer new at) where
+module _ (old new : World) (is : C.AreLocalHeaps old) (command : C.Command C.OfLocals) (answer : ℕ) (at : LocalHeap) (c : current_heap old ≡ Some at) (g : IsGrown old command answer new at) where
   abbrev size : ℕ
   size = g.grows.size
 
@@ -101,7 +101,7 @@ module _ (old new : World) (is : C.AreLocalHeaps old) (command : C.LocalCommand)
     begins_none = begins_none;
   }
 
-frame : (old new : World) → C.AreLocalHeaps old → (command : C.LocalCommand) (answer : ℕ) → Outcome old command answer new → KeepsRest old new ⊎ C.KeepsRestLonger old command new
+frame : (old new : World) → C.AreLocalHeaps old → (command : C.Command C.OfLocals) (answer : ℕ) → Outcome old command answer new → KeepsRest old new ⊎ C.KeepsRestLonger old command new
 frame old new is command answer (inl same) = inl (same_objects old new (ap (λ w. w.loading) same) (λ slot. inl (ap (λ w. finmap.get w.heaps slot) same)))
 frame old new is command answer (inr (inl init)) = inl (same_objects old new (ap (λ w. w.loading) init.rest) (λ slot. elim (cases_eq slot init.begun.slot) [
   | inl e ↦

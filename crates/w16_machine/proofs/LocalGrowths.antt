@@ -6,6 +6,7 @@ use proofs.LocalGrown.{grown_handles, grown_object, grown_world}
 use proofs.{Loaded.loading_world_kept, LocalFacts.IsThere, LocalLeft.left_is, LocalLeft.left_over, Stepped.handles_step}
 use Rattle.w16_loading.specs.declared.LoadRefusal.TheVariants.{BadFile}
 use Rattle.std.specs.FinMap as finmap
+use Rattle.w16_loading.specs.Families.AnyCommand.{any}
 
 -- a format that accepts nothing
 abbrev nothing : Format
@@ -17,8 +18,8 @@ module _ (old : World) (at : C.LocalHeap) (options : C.RoomOptions) (size : ℕ)
   reallocated = C.after_loading old (with_handles old.loading l.handles)
 
   -- this is a step
-  pub growth_step : (honest : Type 0) (format : Format) → Step honest format old (OfResizes (GlobalReAlloc l.handle size (growth_flags options))) (Word l.answer) reallocated
-  growth_step honest format = (handles_step honest format old.loading l.handles (OfResizes (GlobalReAlloc l.handle size (growth_flags options))) (Word l.answer) tt l.reallocated, refl)
+  pub growth_step : (honest : Type 0) (format : Format) → Step honest format old (any _ (GlobalReAlloc l.handle size (growth_flags options))) (Word l.answer) reallocated
+  growth_step honest format = (handles_step honest format old.loading l.handles (any _ (GlobalReAlloc l.handle size (growth_flags options))) (Word l.answer) tt l.reallocated, refl)
 
   module _ (is : IsWorld old) (there : IsThere old at) (is_size : C.IsLongerSize at size) where
     abbrev mine : C.LocalHeap
@@ -28,7 +29,7 @@ module _ (old : World) (at : C.LocalHeap) (options : C.RoomOptions) (size : ℕ)
     grown = C.with_longer old l.handles mine
 
     is_reallocated : IsWorld reallocated
-    is_reallocated = loading_world_kept ⊥ nothing old reallocated is (OfResizes (GlobalReAlloc l.handle size (growth_flags options))) (Word l.answer) (growth_step ⊥ nothing).0 refl tt
+    is_reallocated = loading_world_kept ⊥ nothing old reallocated is (any _ (GlobalReAlloc l.handle size (growth_flags options))) (Word l.answer) (growth_step ⊥ nothing).0 refl tt
 
     -- its heap's segment is no code
     still_here : finmap.get reallocated.heaps at.slot ≡ Some at.table
@@ -57,4 +58,4 @@ module _ (old : World) (at : C.LocalHeap) (options : C.RoomOptions) (size : ℕ)
     }
       where
         after : IsOfFiles format (with_handles old.loading l.handles)
-        after = C.code_law (Unit {0}) format old.loading (with_handles old.loading l.handles) (OfResizes (GlobalReAlloc l.handle size (growth_flags options))) (Word l.answer) tt is.loading of (growth_step (Unit {0}) format).0
+        after = C.code_law (Unit {0}) format old.loading (with_handles old.loading l.handles) (any _ (GlobalReAlloc l.handle size (growth_flags options))) (Word l.answer) tt is.loading of (growth_step (Unit {0}) format).0

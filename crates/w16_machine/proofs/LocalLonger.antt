@@ -19,7 +19,7 @@ held_flags options handle size = turn options.discard
     turn true = refl
     turn false = refl
 
-module _ (old new : World) (command : C.LocalCommand) (is : C.AreLocalHeaps old) (r : C.KeepsRestLonger old command new) where
+module _ (old new : World) (command : C.Command C.OfLocals) (is : C.AreLocalHeaps old) (r : C.KeepsRestLonger old command new) where
   abbrev at : LocalHeap
   at = r.at
 

@@ -75,7 +75,7 @@ module _ (old new : World) (is : IsWorld old) (k : KeepsRest old new) where
   rest_files : (format : Format) → IsOfFiles format old.loading → IsOfFiles format new.loading
   rest_files format of = C.code_kept format old.loading new.loading (keeps_code old new k is.uncoded format) of
 
-module _ (old new : World) (command : C.LocalCommand) (reply : Reply) (is : IsWorld old) (step : C.LocalStep old command reply new) where
+module _ (old new : World) (command : C.Command C.OfLocals) (reply : Reply) (is : IsWorld old) (step : C.LocalStep old command reply new) where
   abbrev Framed : Type 0
   Framed = KeepsRest old new ⊎ C.KeepsRestLonger old command new
 

@@ -2,7 +2,9 @@
 use Rattle.w16_machine.proofs
 use proofs.Common as C
 use proofs.Common.{◌≡◌, ◌≢◌, ℕ, ◌+◌, ◌-◌, ◌≤◌, inl, inr, Bool, true, false, cond, not, ◌&&◌, ◌||◌, ◌==◌, nat_lt, IfOk, IfSome, IsSomeAnd, List, [], take, Option, Some, None, Result, Ok, Err, option_map, is_some, refl, sym, ap, ◌∙◌, subst, false≢true, cases_eq, Block, Entry, Kind, Fixed}
-use proofs.Common.{Discardable, Refusal, Heap, Object, object_at, is_fixed, is_discardable, with_ordered, with_newest, removed, absent, IsNew, Asked, Table, asked, AreNamed, rounded_up, LocalCommand, local_kind, local_options, moveable_or_discardable}
+use proofs.Common.{Discardable, Refusal, Heap, Object, object_at, is_fixed, is_discardable, with_ordered, with_newest, removed, absent, IsNew, Asked, Table, asked, AreNamed, rounded_up, local_kind, local_options, moveable_or_discardable}
+use Rattle.w16_model.specs.Commands.{Command}
+use Rattle.w16_model.specs.Commands.Family.{OfLocals}
 use proofs.LocalOutcomes.{IsAltered, IsMade, IsRoomed, IsStepped}
 use Rattle.w16_model.specs.Reallocation.{KeepsRest}
 use Rattle.std.specs.FinMap as finmap
@@ -186,12 +188,12 @@ module _ (old : Heap) (named : AreNamed old) where
         turn None h = absurd h
         turn (Some o) h = named_own new id h.count h.others (own (local_options flags).zero o (rounded_up size) (object_at new id) h.object)
 
-    pub made_named : (first : Heap) (command : LocalCommand) (answer : ℕ) (new : Heap) → IsMade first old command answer new → AreNamed new
+    pub made_named : (first : Heap) (command : Command OfLocals) (answer : ℕ) (new : Heap) → IsMade first old command answer new → AreNamed new
     made_named first command answer new (inl (flags, size, id, free, made)) = allocated_named id (rounded_up size) (local_kind flags) (local_options flags) new made.allocated
     made_named first command answer new (inr (inl (size, made))) = room_named size answer new made
     made_named first command answer new (inr (inr (size, flags, id, named_id, may, resized))) = resized_named id size flags answer new resized
 
-    pub roomed_named : (command : LocalCommand) (answer : ℕ) (new : Heap) → IsRoomed old command answer new → AreNamed new
+    pub roomed_named : (command : Command OfLocals) (answer : ℕ) (new : Heap) → IsRoomed old command answer new → AreNamed new
     roomed_named command answer new (inl (asks, made)) = made_named old command answer new made
     roomed_named command answer new (inr (id, named_id, inl e)) = subst (λ r. IfOk r AreNamed) e.1 (free_named id)
     roomed_named command answer new (inr (id, named_id, inr e)) = subst (λ r. IfOk r AreNamed) e (discard_named id)
@@ -201,7 +203,7 @@ module _ (old : Heap) (named : AreNamed old) where
   altered_named id new (inr (inl e)) = subst (λ r. IfOk r AreNamed) e (unlock_named id)
   altered_named id new (inr (inr (flags, e))) = subst (λ r. IfOk r AreNamed) e (modify_named id (moveable_or_discardable flags) (not_fixed flags))
 
-  pub stepped_named : (command : LocalCommand) (new : Heap) → IsStepped old command new → AreNamed new
+  pub stepped_named : (command : Command OfLocals) (new : Heap) → IsStepped old command new → AreNamed new
   stepped_named command new (inl (id, named_id, altered)) = altered_named id new altered
   stepped_named command new (inr (flags, size, id, t, enters)) =
       named_put new id (record { kind = local_kind flags; locks = 0; bytes = None }) (ap (λ (h : Heap). h.objects) enters.entered) (loose_named (record { kind = local_kind flags; locks = 0; bytes = None }) (asked_loose flags size t))

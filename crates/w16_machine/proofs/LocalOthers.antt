@@ -108,7 +108,7 @@ module _ (asks : Bool) (old : Heap) (q : ℕ) (o : Object) (there : object_at ol
             if_taken (nat_lt 0 o.locks) (Err refusals.Locked) (cond (is_discardable o.kind) (Ok (absent old id)) (Err refusals.NotDiscardable)) tt
             (if_taken (is_discardable o.kind) (Ok (absent old id)) (Err refusals.NotDiscardable) absent_kept tt)
 
-    given_up_kept : (command : C.LocalCommand) (new : Heap) → IsGivenUp old command id new → Kept new
+    given_up_kept : (command : C.Command C.OfLocals) (new : Heap) → IsGivenUp old command id new → Kept new
     given_up_kept command new (inl e) = subst (λ r. IfOk r Kept) e.1 free_kept
     given_up_kept command new (inr e) = subst (λ r. IfOk r Kept) e discard_kept
 
@@ -154,7 +154,7 @@ module _ (asks : Bool) (old : Heap) (q : ℕ) (o : Object) (there : object_at ol
         turn (Some p) h g = room_kept asked new (Some id) h.count (local_options flags).compact (not_some id other) h.others g.others
 
 -- In a local heap.
-module _ (old : World) (is : C.AreLocalHeaps old) (at : C.LocalHeap) (c : C.current_heap old ≡ Some at) (command : C.LocalCommand) (q : ℕ) (o : Object) (there : object_at (heap_of at) q ≡ Some o) where
+module _ (old : World) (is : C.AreLocalHeaps old) (at : C.LocalHeap) (c : C.current_heap old ≡ Some at) (command : C.Command C.OfLocals) (q : ℕ) (o : Object) (there : object_at (heap_of at) q ≡ Some o) where
   heap : IsHeap (heap_of at)
   heap = heap_here old is at (current_there old at c)
 

@@ -3,7 +3,9 @@
 use Rattle.w16_machine.proofs
 use proofs.Common as C
 use proofs.Common.{◌≡◌, ℕ, ◌⊎◌, inl, inr, Bool, true, false, ◌==◌, ◌&&◌, ◌||◌, not, MatchBool, MatchOption, Option, Some, None, Ok, Err, refl, sym, ap, ◌∙◌, subst, arith, false≢true, Refusal, Heap, MakesRoom, after_lock, after_unlock, after_free, after_discard, has_flag, LMEM_MOVEABLE}
-use proofs.Common.{LMEM_MODIFY, LMEM_NOCOMPACT, World, LocalHeap, LocalObject, Becomes, Acts, Stays, heap_of, current_heap, beginning, LocalCommand, Leaves, GivesUp, AllocatesObject, ResizesObject, Grows, longer, is_absent_asked, DiscardsObject, SizesObject, near_pointer, LocalInit}
+use proofs.Common.{LMEM_MODIFY, LMEM_NOCOMPACT, World, LocalHeap, LocalObject, Becomes, Acts, Stays, heap_of, current_heap, beginning, Leaves, GivesUp, AllocatesObject, ResizesObject, Grows, longer, is_absent_asked, DiscardsObject, SizesObject, near_pointer, LocalInit}
+use Rattle.w16_model.specs.Commands.{Command}
+use Rattle.w16_model.specs.Commands.Family.{OfLocals}
 use proofs.Common.{LocalAlloc, LocalReAlloc, LocalDiscard, LocalFree, LocalLock, LocalUnlock, LocalCompact, DS, asks_for_room, may_grow, may_move_named, flags_in}
 use proofs.LocalFacts.{named_there}
 
@@ -14,29 +16,29 @@ IsAltered heap id next =
     ⊎ ((flags : ℕ) × (C.after_modify heap id (C.moveable_or_discardable flags) ≡ Ok next))
 
 -- the object that a call names
-pub record IsNamedIn (heap : Heap) (command : LocalCommand) (id : ℕ) : Type 0 where
+pub record IsNamedIn (heap : Heap) (command : Command OfLocals) (id : ℕ) : Type 0 where
   pub name : ℕ
   pub asked : C.named_by command ≡ Some name
   pub has : C.id_named heap name ≡ Some id
 
 -- an object gives its bytes up: it is freed, by a call that may do so, or it is discarded
-abbrev pub IsGivenUp : Heap → LocalCommand → ℕ → Heap → Type 0
+abbrev pub IsGivenUp : Heap → Command OfLocals → ℕ → Heap → Type 0
 IsGivenUp heap command id next = ((may_move_named command ≡ true) × (after_free heap id ≡ Ok next)) ⊎ (after_discard heap id ≡ Ok next)
 
 -- room is made by a call that asks for it: for a new object, for no object, or for an object's other size. The entry is told by the heap as it was
 -- first.
-abbrev pub IsMade : Heap → Heap → LocalCommand → ℕ → Heap → Type 0
+abbrev pub IsMade : Heap → Heap → Command OfLocals → ℕ → Heap → Type 0
 IsMade first heap command answer next =
     ((flags size id : ℕ) × C.IsLowestFree first id × AllocatesObject heap flags size id answer next)
     ⊎ ((size : ℕ) × MakesRoom heap size answer next)
     ⊎ ((size flags id : ℕ) × IsNamedIn first command id × (may_move_named command ≡ true) × ResizesObject heap id size flags answer next)
 
 -- or an object gives its bytes up
-abbrev pub IsRoomed : Heap → LocalCommand → ℕ → Heap → Type 0
+abbrev pub IsRoomed : Heap → Command OfLocals → ℕ → Heap → Type 0
 IsRoomed heap command answer next = ((asks_for_room command ≡ true) × IsMade heap heap command answer next) ⊎ ((id : ℕ) × IsNamedIn heap command id × IsGivenUp heap command id next)
 
 -- LocalInit began a heap
-pub record IsInit (old : World) (command : LocalCommand) (answer : ℕ) (new : World) : Type 0 where
+pub record IsInit (old : World) (command : Command OfLocals) (answer : ℕ) (new : World) : Type 0 where
   pub selector : ℕ
   pub start : ℕ
   pub end : ℕ
@@ -51,11 +53,11 @@ abbrev pub IsEntered : Heap → Heap → Type 0
 IsEntered heap next = (flags size id : ℕ) × (is_absent_asked flags size ≡ true) × C.Enters heap id (C.local_kind flags) next
 
 -- a call asks for no room
-abbrev pub IsStepped : Heap → LocalCommand → Heap → Type 0
+abbrev pub IsStepped : Heap → Command OfLocals → Heap → Type 0
 IsStepped heap command next = ((id : ℕ) × IsNamedIn heap command id × IsAltered heap id next) ⊎ IsEntered heap next
 
 -- a heap grows, for a call that may make it, and then room is made
-pub record IsGrown (old : World) (command : LocalCommand) (answer : ℕ) (new : World) (at : LocalHeap) : Type 0 where
+pub record IsGrown (old : World) (command : Command OfLocals) (answer : ℕ) (new : World) (at : LocalHeap) : Type 0 where
   pub may : may_grow command ≡ true
   pub id : ℕ
   pub n : ℕ
@@ -68,19 +70,19 @@ first true b e = refl
 first false b e = e
 
 -- such a call asks for room
-pub grow_asks : (command : LocalCommand) → may_grow command ≡ true → asks_for_room command ≡ true
+pub grow_asks : (command : Command OfLocals) → may_grow command ≡ true → asks_for_room command ≡ true
 grow_asks (LocalAlloc flags size) e = first _ _ e
 grow_asks (LocalReAlloc name size flags) e = first _ _ e
 grow_asks other e = absurd (false≢true e)
 
 -- what was done in a local heap
-abbrev pub IsDone : World → LocalCommand → ℕ → World → LocalHeap → Type 0
+abbrev pub IsDone : World → Command OfLocals → ℕ → World → LocalHeap → Type 0
 IsDone old command answer new at =
     ((next : Heap) × IsStepped (heap_of at) command next × Becomes old at next new)
     ⊎ Acts old at (IsRoomed (heap_of at) command answer) new
     ⊎ IsGrown old command answer new at
 
-abbrev pub Outcome : World → LocalCommand → ℕ → World → Type 0
+abbrev pub Outcome : World → Command OfLocals → ℕ → World → Type 0
 Outcome old command answer new = (new ≡ old) ⊎ IsInit old command answer new ⊎ ((at : LocalHeap) × (current_heap old ≡ Some at) × IsDone old command answer new at)
 
 acts_as : (old : World) (at : LocalHeap) (P Q : Heap → Type 0) (new : World) → ((heap : Heap) → P heap → Q heap) → Acts old at P new → Acts old at Q new
@@ -96,7 +98,7 @@ acts_as old at P Q new f a = record {
   rest = a.rest;
 }
 
-module _ (old : World) (command : LocalCommand) (answer : ℕ) (new : World) where
+module _ (old : World) (command : Command OfLocals) (answer : ℕ) (new : World) where
   abbrev Out : Type 0
   Out = Outcome old command answer new
 
@@ -207,7 +209,7 @@ module _ (old : World) (command : LocalCommand) (answer : ℕ) (new : World) whe
       modify true e l = leaves o c named (C.after_modify (heap_of o.heap) o.id (C.moveable_or_discardable flags)) (λ next e. inr (inr (flags, e))) (λ _. name) (λ _. name) l
       modify false e s = by_size e (size == 0) refl s
 
-pub outcome : (old : World) (command : LocalCommand) (answer : ℕ) (new : World) → C.Answers old command answer new → Outcome old command answer new
+pub outcome : (old : World) (command : Command OfLocals) (answer : ℕ) (new : World) → C.Answers old command answer new → Outcome old command answer new
 outcome old (LocalInit selector start end) answer new step = inits old _ _ new _ _ end refl step
 outcome old (LocalAlloc flags size) answer new step = on_chosen old _ _ new _ (allocates old _ _ new _ size refl (λ some. ap not some) (λ some may i. not (some i) && may i)) step
 outcome old (LocalReAlloc name size flags) answer new step =

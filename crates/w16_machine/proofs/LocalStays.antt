@@ -6,23 +6,24 @@ use proofs.LocalFrame.{frame_law}
 use proofs.LocalFar.{read_same, write_same, tables_stay}
 use proofs.Stepped.{call_replies, fetching, loading, once}
 use Rattle.w16_loading.specs.{Families.Loading, Families.access_of, Law.far_reads_file, Fetch.Fetching}
-use Rattle.w16_model.specs.{CallLaws.may_change, Calls.HandleCommand.GlobalFree, Far.pointer_in}
-use Rattle.w16_loading.specs.Resizes.ResizeCommand.{GlobalDiscard}
+use Rattle.w16_model.specs.Commands.Command.{GlobalFree, GlobalDiscard}
+use Rattle.w16_model.specs.{CallLaws.may_change, Far.pointer_in}
 use Rattle.w16_loading.proofs.Cases.{by_option}
 use Rattle.std.specs.FinMap as finmap
 use Rattle.w16_loading.specs.Families as families
+use Rattle.w16_loading.specs.Families.AnyCommand.{any}
 
 -- a call that takes no bytes changes none
-call_keeps : (command : C.HandleCommand) → C.may_take_bytes (C.OfHandles command) ≡ false → may_change (Calls command) ≡ false
+call_keeps : (command : C.Command C.OfHandles) → C.may_take_bytes (any C.OfHandles command) ≡ false → may_change (Calls command) ≡ false
 call_keeps (C.GlobalAlloc flags size) m = m
 call_keeps (GlobalFree handle) m = m
 call_keeps (C.GlobalCompact size) m = m
 call_keeps other m = refl
 
-reply_same : (old new : C.Handles) (command : C.HandleCommand) (answer : Option C.Answer) → C.may_take_bytes (C.OfHandles command) ≡ false → IsSomeAnd answer (λ answer. C.HandleStep old command answer new) → HasSamePlaces old new
+reply_same : (old new : C.Handles) (command : C.Command C.OfHandles) (answer : Option C.Answer) → C.may_take_bytes (any C.OfHandles command) ≡ false → IsSomeAnd answer (λ answer. C.HandleStep old command answer new) → HasSamePlaces old new
 reply_same old new command None m step = absurd step
 reply_same old new command (Some answer) m step =
-    let k = C.contents old new (Calls _) answer (C.call_outcome old new _ _ step) (call_keeps command m) in
+    let k = C.contents old new (Calls command) answer (C.call_outcome old new _ _ step) (call_keeps command m) in
     record { addresses = k.addresses; attributes = k.attributes; kinds = k.kinds; sizes = λ q. ap (option_map _) (k.bytes q) }
 
 module _ (fetches : Fetching) (loads : Loading) (old new : LoadingWorld) (reply : Reply) where
@@ -32,10 +33,10 @@ module _ (fetches : Fetching) (loads : Loading) (old new : LoadingWorld) (reply 
   unchanged : new ≡ old → HasSamePlaces old.handles new.handles
   unchanged e = same_world old (record { addresses = refl; attributes = refl; kinds = λ q. refl; sizes = λ q. refl }) e
 
-  far_sizes : (command : C.FarCommand) → far_reads_file old command ≡ false → families.FarStep fetches old command reply new → HasSamePlaces old.handles new.handles
+  far_sizes : (command : C.Command C.OfFar) → far_reads_file old command ≡ false → families.FarStep fetches old command reply new → HasSamePlaces old.handles new.handles
   far_sizes command none step = same_world (access_of command old).1 (by command) (once fetches (access_of command) old new (selector_in (pointer_in command)) reply none step)
     where
-      by : (command : C.FarCommand) → HasSamePlaces old.handles (access_of command old).1.handles
+      by : (command : C.Command C.OfFar) → HasSamePlaces old.handles (access_of command old).1.handles
       by (Read pointer count) = read_same old.handles (selector_in pointer) (offset_in pointer) count
       by (Write pointer bytes) = write_same old.handles (selector_in pointer) (offset_in pointer) bytes
       by (Fill pointer count byte) = write_same old.handles (selector_in pointer) (offset_in pointer) (C.repeated count byte)
@@ -47,26 +48,26 @@ module _ (fetches : Fetching) (loads : Loading) (old new : LoadingWorld) (reply 
     | inr (handle, e, f) ↦ unchanged f.1
   ]
 
-  modules_sizes : (command : C.ModuleCommand) → C.may_take_bytes (C.OfModules command) ≡ false → C.ModuleStep loads old command reply new → HasSamePlaces old.handles new.handles
+  modules_sizes : (command : C.Command C.OfModules) → C.may_take_bytes (any C.OfModules command) ≡ false → C.ModuleStep loads old command reply new → HasSamePlaces old.handles new.handles
   modules_sizes (C.Builtin name) m step = built_in_sizes name step.0 step.2
   modules_sizes (C.GetModuleHandle name) m step = unchanged step.1
   modules_sizes (C.GetModuleUsage handle) m step = unchanged step.1
   modules_sizes (C.GetProcAddress handle label) m step = unchanged step.1
   modules_sizes other m step = absurd (false≢true (sym m))
 
-  resources_sizes : (command : C.ResourceCommand) → C.may_take_bytes (C.OfResources command) ≡ false → C.ResourceStep fetches old command reply new → HasSamePlaces old.handles new.handles
+  resources_sizes : (command : C.Command C.OfResources) → C.may_take_bytes (any C.OfResources command) ≡ false → C.ResourceStep fetches old command reply new → HasSamePlaces old.handles new.handles
   resources_sizes (C.FindResource handle name kind) m step = unchanged step.1
   resources_sizes (C.SizeofResource handle place) m step = unchanged step.1
   resources_sizes other m step = absurd (false≢true (sym m))
 
 pub places_law : (honest : Type 0) → C.SamePlacesLaw honest
-places_law honest format old new (C.OfHandles command) reply m step = reply_same _ _ _ (C.answer_in reply) m (call_replies honest format old new command reply step)
-places_law honest format old new (C.OfResizes (C.GlobalReAlloc handle size flags)) reply m step = absurd (false≢true (sym m))
-places_law honest format old new (C.OfResizes (GlobalDiscard handle)) reply m step = absurd (false≢true (sym m))
-places_law honest format old new (OfFar command) reply m step = far_sizes (fetching _ format old new) (loading honest format old new) old (record new { failures = old.failures }) reply command m step.step
-places_law honest format old new (C.OfModules command) reply m step = modules_sizes (fetching honest format old new) (loading _ format old new) old (record new { failures = old.failures }) reply _ m step.step
-places_law honest format old new (C.OfResources command) reply m step = resources_sizes (fetching _ format old new) (loading honest format old new) old (record new { failures = old.failures }) reply _ m step.step
-places_law honest format old new (C.OfLocals command) reply m step = absurd step.step
+places_law honest format old new (any C.OfHandles command) reply m step = reply_same _ _ command (C.answer_in reply) m (call_replies honest format old new command reply step)
+places_law honest format old new (any _ (C.GlobalReAlloc handle size flags)) reply m step = absurd (false≢true (sym m))
+places_law honest format old new (any _ (GlobalDiscard handle)) reply m step = absurd (false≢true (sym m))
+places_law honest format old new (any OfFar command) reply m step = far_sizes (fetching honest format old new) (loading honest format old new) old (record new { failures = old.failures }) reply command m step.step
+places_law honest format old new (any C.OfModules command) reply m step = modules_sizes (fetching honest format old new) (loading honest format old new) old (record new { failures = old.failures }) reply command m step.step
+places_law honest format old new (any C.OfResources command) reply m step = resources_sizes (fetching honest format old new) (loading honest format old new) old (record new { failures = old.failures }) reply command m step.step
+places_law honest format old new (any C.OfLocals command) reply m step = absurd step.step
 
 pub heaps_law : (honest : Type 0) → C.HeapsLaw honest
 heaps_law honest format old new command reply is m step = tables_stay old new is step.1 (places_law honest format _ _ command reply m step.0)

@@ -1,7 +1,9 @@
 -- Each step of each family keeps what holds of local heaps.
 use Rattle.w16_machine.proofs
 use proofs.Common.{◌≡◌, ◌≢◌, ℕ, ◌<◌, inl, inr, IsSomeAnd, List, length, All, Some, option_map, refl, sym, ap, subst, arith, cases_eq, Heap, Object, object_at, after_write, AreHandles, Table, heap_in, other_handles, same_updated, written_sized, bytes_in, inserted_here, inserted_other}
-use proofs.Common.{written_heap, put_part, World, Reply, Word, Done, LocalHeap, AreLocalHeaps, IsLocalIn, AreNamed, Becomes, Acts, segment_bytes, heap_of, new_table, with_table, with_local, LocalCommand, LocalStep, DS, longer, with_longer}
+use proofs.Common.{written_heap, put_part, World, Reply, Word, Done, LocalHeap, AreLocalHeaps, IsLocalIn, AreNamed, Becomes, Acts, segment_bytes, heap_of, new_table, with_table, with_local, LocalStep, DS, longer, with_longer}
+use Rattle.w16_model.specs.Commands.{Command}
+use Rattle.w16_model.specs.Commands.Family.{OfLocals}
 use proofs.LocalFacts.{IsThere, current_there, local_here, heap_here, object_of, segment_after, segment_other}
 use proofs.LocalBegins.{begin_law, new_local}
 use proofs.LocalNamed.{made_named, roomed_named, stepped_named}
@@ -45,7 +47,7 @@ module _ (old : World) (is : AreLocalHeaps old) where
         })
 
 -- by what a local call does
-pub local_world : (old : World) → AreLocalHeaps old → (command : LocalCommand) (answer : ℕ) (new : World) → Outcome old command answer new → AreLocalHeaps new
+pub local_world : (old : World) → AreLocalHeaps old → (command : Command OfLocals) (answer : ℕ) (new : World) → Outcome old command answer new → AreLocalHeaps new
 local_world old is command answer new (inl same) = subst AreLocalHeaps (sym same) is
 local_world old is command answer new (inr (inl init)) =
     subst AreLocalHeaps (sym init.rest) (tabled_world old is init.begun.slot (new_table _) (new_local old init.selector init.start init.end _ ((begin_law old _ _ _ _).0 init.may)))
@@ -64,7 +66,7 @@ local_world old is command answer new (inr (inr (at, c, inr (inr g)))) =
     let here = grown_there old is at there _ _ g.grows.growth.served.longer l in
     acts_world _ now mine here _ new (λ heap made. made_named (heap_of mine) (local_here _ now mine here).2 (heap_here _ now mine here) (heap_of at) command answer heap made) g.grows.grown
 
-pub local_heaps_kept : (old new : World) (command : LocalCommand) (reply : Reply) → AreLocalHeaps old → LocalStep old command reply new → AreLocalHeaps new
+pub local_heaps_kept : (old new : World) (command : Command OfLocals) (reply : Reply) → AreLocalHeaps old → LocalStep old command reply new → AreLocalHeaps new
 local_heaps_kept old new (DS selector) Done is step = subst AreLocalHeaps (sym step) (record { handles = is.handles; heaps = is.heaps })
 local_heaps_kept old new command (Word answer) is step = local_world old is command answer new (outcome old _ _ new step)
 local_heaps_kept old new command reply is step = absurd step

@@ -4,12 +4,14 @@ use Rattle.std.specs.Prelude.{◌≡◌, ◌≢◌, ℕ, ◌+◌, ◌≤◌, ◌
 use Rattle.w16_model.specs.{declared.TheConstants.MOST_SLOTS, Heap.Heap, Heap.bytes_at, Owned.is_code, declared.Item.Item, Handles.handle_of, Walk.IsWalk, Heap.object_at, Heap.is_fixed, Table.Table, Table.heap_in, Law.AreHandles, Handles.Handles}
 use Rattle.w16_loading.specs.Law.{IsLoadingWorld, IsOfFiles, empty_loading_world, IsCommand, FarReplies}
 use Rattle.w16_loading.specs.Replies.{Reply, HandleReplies, ResizeReplies}
-use Rattle.w16_loading.specs.Families.Command.{OfHandles, OfResizes, OfFar, OfLocals}
-use Rattle.w16_loading.specs.{File.Format, Families.Command}
+use Rattle.w16_loading.specs.Families.{AnyCommand}
+use Rattle.w16_model.specs.Commands.Family.{OfHandles, OfResizes, OfFar, OfLocals}
+use Rattle.w16_loading.specs.{File.Format}
 use specs.Local.{LocalHeap, heap_of, local_in, IsLocalTable, segment_bytes}
 use specs.Machine.{Step, Event}
 use specs.{World.World}
 use Rattle.std.specs.FinMap as finmap
+use Rattle.w16_loading.specs.Families.AnyCommand.{any}
 
 -- the world over a memory and a store, with so many slots, in which nothing is allocated and nothing loaded
 abbrev pub empty_world : ℕ → ℕ → List (List ℕ × List ℕ) → ℕ → World
@@ -33,15 +35,15 @@ pub record AreLocalHeaps (w : World) : Type 0 where
   pub heaps : (slot : ℕ) → IfSome (finmap.get w.heaps slot) (λ t. IsSomeAnd (segment_bytes w slot) (IsLocalIn t))
 
 -- the calls on local heaps
-abbrev pub IsOfLocals : Command → Type 0
-IsOfLocals (OfLocals command) = Unit {0}
+abbrev pub IsOfLocals : AnyCommand → Type 0
+IsOfLocals (any OfLocals command) = Unit {0}
 IsOfLocals command = ⊥
 
 -- What a command does to handles alone, where it does nothing else: a call on them, or a far access that fetches nothing.
-abbrev pub OnHandles : Handles → Command → Reply → Handles → Type 0
-OnHandles old (OfHandles command) reply new = HandleReplies old command reply new
-OnHandles old (OfResizes command) reply new = ResizeReplies old command reply new
-OnHandles old (OfFar command) reply new = FarReplies old command reply new
+abbrev pub OnHandles : Handles → AnyCommand → Reply → Handles → Type 0
+OnHandles old (any OfHandles command) reply new = HandleReplies old command reply new
+OnHandles old (any OfResizes command) reply new = ResizeReplies old command reply new
+OnHandles old (any OfFar command) reply new = FarReplies old command reply new
 OnHandles old command reply new = ⊥
 
 -- the same world, which says nothing of the count of failures, but that it isn't lowered
@@ -83,8 +85,8 @@ EmptyLaw = (format : Format) (memory slots : ℕ) (files : List (List ℕ × Lis
 
 -- Each step keeps what holds of every world, whatever the store answers,
 abbrev pub WorldLaw : (honest : Type 0) → Type 0
-WorldLaw honest = (format : Format) (old new : World) (command : Command) (reply : Reply) → IsWorld old → IsCommand command → Step honest format old command reply new → IsWorld new
+WorldLaw honest = (format : Format) (old new : World) (command : AnyCommand) (reply : Reply) → IsWorld old → IsCommand command → Step honest format old command reply new → IsWorld new
 
 -- and where the store is honest code still reads as its file's relocated bytes.
 abbrev pub FilesLaw : (honest : Type 0) → Type 0
-FilesLaw honest = (format : Format) (old new : World) (command : Command) (reply : Reply) → honest → IsWorldOfFiles format old → IsCommand command → Step honest format old command reply new → IsWorldOfFiles format new
+FilesLaw honest = (format : Format) (old new : World) (command : AnyCommand) (reply : Reply) → honest → IsWorldOfFiles format old → IsCommand command → Step honest format old command reply new → IsWorldOfFiles format new

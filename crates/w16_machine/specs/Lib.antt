@@ -3,7 +3,7 @@ pub mod Local
 pub mod LocalGrowth
 pub mod LocalCalls
 pub mod Machine
-pub mod Columns
+pub mod Rows
 pub mod Fewest
 pub mod Law
 pub mod LocalLaw

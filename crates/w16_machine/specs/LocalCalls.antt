@@ -9,8 +9,10 @@ use Rattle.w16_model.specs.{declared.Kind.Kind, declared.Refusal.Refusal, declar
 use specs.declared.local.TheConstants.{LMEM_MOVEABLE, LMEM_NOCOMPACT, LMEM_NODISCARD, LMEM_ZEROINIT, LMEM_MODIFY, LMEM_DISCARDABLE, LMEM_DISCARDED}
 use specs.Local.{LocalHeap, LocalObject, Stays, Becomes, Acts, IsFreeEntry, IsLowestFree, heap_of, current_heap, object_named, name_at, id_at, rounded_up, beginning, new_table, with_table}
 use specs.{World.World, LocalGrowth.OnceLonger}
-use Rattle.w16_loading.specs.{Replies.Reply, Replies.Reply.Word, Replies.Reply.Done, Families.LocalCommand}
-use Rattle.w16_loading.specs.Families.LocalCommand.{LocalInit, LocalAlloc, LocalReAlloc, LocalDiscard, LocalFree, LocalLock, LocalUnlock, LocalSize, LocalFlags, LocalHandle, LocalCompact, DS}
+use Rattle.w16_loading.specs.{Replies.Reply, Replies.Reply.Word, Replies.Reply.Done}
+use Rattle.w16_model.specs.Commands.{Command}
+use Rattle.w16_model.specs.Commands.Family.{OfLocals}
+use Rattle.w16_model.specs.Commands.Command.{LocalInit, LocalAlloc, LocalReAlloc, LocalDiscard, LocalFree, LocalLock, LocalUnlock, LocalSize, LocalFlags, LocalHandle, LocalCompact, DS}
 use Rattle.std.specs.FinMap as finmap
 use Rattle.w16_model.specs.declared.Refusal.TheVariants as refusals
 
@@ -193,7 +195,7 @@ local_handle w pointer = elim (current_heap w) [ None ↦ 0 | Some at ↦ unwrap
 -- One step: the answer that may be given to a call, and the world that it leaves.
 
 -- a call that answers a word
-abbrev pub Answers : World → LocalCommand → ℕ → World → Type 0
+abbrev pub Answers : World → Command OfLocals → ℕ → World → Type 0
 Answers old (LocalInit selector start end) answer new = LocalInits old selector start end answer new
 Answers old (LocalAlloc flags size) answer new = LocalAllocs old flags size answer new
 Answers old (LocalReAlloc name size flags) answer new = LocalReallocs old name size flags answer new
@@ -208,7 +210,7 @@ Answers old (LocalCompact size) answer new = LocalCompacts old size answer new
 Answers old (DS selector) answer new = ⊥
 
 -- DS names a segment, any word; no heap and no byte changes
-abbrev pub LocalStep : World → LocalCommand → Reply → World → Type 0
+abbrev pub LocalStep : World → Command OfLocals → Reply → World → Type 0
 LocalStep old (DS selector) Done new = new ≡ record old { ds = selector }
 LocalStep old command (Word answer) new = Answers old command answer new
 LocalStep old command reply new = ⊥

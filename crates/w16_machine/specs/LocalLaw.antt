@@ -11,10 +11,12 @@ use specs.Local.{LocalHeap, Beginning, segment_bytes, heap_of, local_in, current
 use specs.Law.{AreLocalHeaps}
 use specs.LocalGrowth.{IsLongerSize, Lengthens, longer, with_longer}
 use specs.LocalCalls.{LocalStep, is_absent_asked, local_options}
-use Rattle.w16_loading.specs.Families.{LocalCommand}
-use Rattle.w16_loading.specs.Families.LocalCommand.{LocalAlloc, LocalCompact, LocalReAlloc, LocalDiscard, LocalFree, LocalLock, LocalUnlock, LocalSize, LocalFlags}
+use Rattle.w16_model.specs.Commands.{Command}
+use Rattle.w16_loading.specs.Families.{AnyCommand}
+use Rattle.w16_model.specs.Commands.Family.{OfLocals}
+use Rattle.w16_model.specs.Commands.Command.{LocalAlloc, LocalReAlloc, LocalDiscard, LocalFree, LocalLock, LocalUnlock, LocalSize, LocalFlags, LocalCompact}
 use specs.Machine.{LoadingStep}
-use Rattle.w16_loading.specs.{File.Format, Modules.with_handles, Families.Command, Replies.Reply}
+use Rattle.w16_loading.specs.{File.Format, Modules.with_handles, Replies.Reply}
 use Rattle.std.specs.FinMap as finmap
 
 -- Names.
@@ -77,27 +79,27 @@ pub record KeepsRest (old new : World) : Type 0 where
   pub heaps : (slot : ℕ) → IsHeapKept old new slot
 
 -- the calls that ask for room: an allocation of bytes, a reallocation to a size other than 0, and a compaction for more than 0 bytes
-abbrev pub asks_for_room : LocalCommand → Bool
+abbrev pub asks_for_room : Command OfLocals → Bool
 asks_for_room (LocalAlloc flags size) = not (is_absent_asked flags size)
 asks_for_room (LocalReAlloc name size flags) = not (has_flag flags LMEM_MODIFY || size == 0)
 asks_for_room (LocalCompact size) = not (size == 0)
 asks_for_room command = false
 
 -- those for which a heap may grow: the first two, without LMEM_NOCOMPACT
-abbrev pub may_grow : LocalCommand → Bool
+abbrev pub may_grow : Command OfLocals → Bool
 may_grow (LocalAlloc flags size) = asks_for_room (LocalAlloc flags size) && not (has_flag flags LMEM_NOCOMPACT)
 may_grow (LocalReAlloc name size flags) = asks_for_room (LocalReAlloc name size flags) && not (has_flag flags LMEM_NOCOMPACT)
 may_grow command = false
 
 -- the flags that a call for an object's bytes is given
-abbrev pub flags_in : LocalCommand → Option ℕ
+abbrev pub flags_in : Command OfLocals → Option ℕ
 flags_in (LocalAlloc flags size) = Some flags
 flags_in (LocalReAlloc name size flags) = Some flags
 flags_in command = None
 
 -- The current heap grew, for a call that may make it: its segment was lengthened as by GlobalReAlloc, the heap is the current one still, and the
 -- rest of the world that this left is kept. No heap begins.
-pub record KeepsRestLonger (old : World) (command : LocalCommand) (new : World) : Type 0 where
+pub record KeepsRestLonger (old : World) (command : Command OfLocals) (new : World) : Type 0 where
   pub may : may_grow command ≡ true
   pub at : LocalHeap
   pub current : current_heap old ≡ Some at
@@ -113,7 +115,7 @@ pub record KeepsRestLonger (old : World) (command : LocalCommand) (new : World) 
 
 -- Whatever a local call answers, it keeps the rest, or does so once its heap has grown.
 abbrev pub FrameLaw : Type 0
-FrameLaw = (old new : World) (command : LocalCommand) (reply : Reply) → AreLocalHeaps old → LocalStep old command reply new → KeepsRest old new ⊎ KeepsRestLonger old command new
+FrameLaw = (old new : World) (command : Command OfLocals) (reply : Reply) → AreLocalHeaps old → LocalStep old command reply new → KeepsRest old new ⊎ KeepsRestLonger old command new
 
 -- a segment that was lengthened: all but its bytes is the same, it has more of these, and below the heap the same
 pub record IsLengthened (at : LocalHeap) (before after : Object) : Type 0 where
@@ -152,7 +154,7 @@ pub record LeavesLonger (old new : World) : Type 0 where
 -- Inside the local heap.
 
 -- the name in a call
-abbrev pub named_by : LocalCommand → Option ℕ
+abbrev pub named_by : Command OfLocals → Option ℕ
 named_by (LocalReAlloc name size flags) = Some name
 named_by (LocalDiscard name) = Some name
 named_by (LocalFree name) = Some name
@@ -170,27 +172,27 @@ pub record IsLocalKept (asks : Bool) (old new : Heap) (q : ℕ) (o : Object) : T
   pub still : asks ≡ false → (object_at new q ≡ Some o) × StandsStill old new q
 
 abbrev pub OthersLaw : Type 0
-OthersLaw = (old new : World) (command : LocalCommand) (reply : Reply) (at after : LocalHeap) (q : ℕ) (o : Object) → AreLocalHeaps old → LocalStep old command reply new
+OthersLaw = (old new : World) (command : Command OfLocals) (reply : Reply) (at after : LocalHeap) (q : ℕ) (o : Object) → AreLocalHeaps old → LocalStep old command reply new
     → current_heap old ≡ Some at → local_in new at.slot ≡ Some after
     → object_at (heap_of at) q ≡ Some o → ((name : ℕ) → named_by command ≡ Some name → name_at (heap_of at) q ≢ Some name)
     → IsLocalKept (asks_for_room command) (heap_of at) (heap_of after) q o
 
 -- the calls that may move a fixed or locked object that they name, or free it
-abbrev pub may_move_named : LocalCommand → Bool
+abbrev pub may_move_named : Command OfLocals → Bool
 may_move_named (LocalReAlloc name size flags) = asks_for_room (LocalReAlloc name size flags)
 may_move_named (LocalFree name) = true
 may_move_named command = false
 
 -- every other call leaves it where it stands
 abbrev pub PinnedLaw : Type 0
-PinnedLaw = (old new : World) (command : LocalCommand) (reply : Reply) (at after : LocalHeap) (q : ℕ) (o : Object) → AreLocalHeaps old → LocalStep old command reply new
+PinnedLaw = (old new : World) (command : Command OfLocals) (reply : Reply) (at after : LocalHeap) (q : ℕ) (o : Object) → AreLocalHeaps old → LocalStep old command reply new
     → current_heap old ≡ Some at → local_in new at.slot ≡ Some after
     → object_at (heap_of at) q ≡ Some o → is_pinned_object o ≡ true
     → (may_move_named command ≡ true → (name : ℕ) → named_by command ≡ Some name → name_at (heap_of at) q ≢ Some name)
     → StandsStill (heap_of at) (heap_of after) q
 
 -- the object that a call names in the current heap
-abbrev pub IsNamedBy : LocalCommand → Heap → ℕ → Type 0
+abbrev pub IsNamedBy : Command OfLocals → Heap → ℕ → Type 0
 IsNamedBy command heap q = (name : ℕ) × (named_by command ≡ Some name) × (name_at heap q ≡ Some name)
 
 -- Far accesses.
@@ -208,5 +210,5 @@ pub record HasSameObjects (old new : Heap) : Type 0 where
 
 -- a step of the other families leaves a local heap exactly where its segment still has its range
 abbrev pub GoesLaw : (honest : Type 0) → Type 0
-GoesLaw honest = (format : Format) (old new : World) (command : Command) (reply : Reply) → LoadingStep honest format old command reply new → (slot : ℕ) (t : Table)
+GoesLaw honest = (format : Format) (old new : World) (command : AnyCommand) (reply : Reply) → LoadingStep honest format old command reply new → (slot : ℕ) (t : Table)
     → (finmap.get new.heaps slot ≡ Some t) ↔ ((finmap.get old.heaps slot ≡ Some t) × IsSomeAnd (bytes_at new.loading.handles.heap slot) (λ bytes. t.hi ≤ length bytes))

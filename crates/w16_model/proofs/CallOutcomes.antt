@@ -191,7 +191,7 @@ module _ (old : Handles) (call : Call) (reply : Answer) (new : Handles) where
   abbrev order_outcome : ℕ → Result Heap Refusal → Answer × Handles
   order_outcome handle r = elim r [ Ok heap ↦ (Word handle, record old { heap = heap }) | Err _ ↦ (Word 0, old) ]
 
-  orders : (asks : ℕ → C.HandleCommand) (order : ℕ → List ℕ → List ℕ) → (C.Orders old call asks order new → Out) → (handle : ℕ) → counts_moved call ≡ false → call ≡ Calls (asks handle)
+  orders : (asks : ℕ → C.Command C.OfHandles) (order : ℕ → List ℕ → List ℕ) → (C.Orders old call asks order new → Out) → (handle : ℕ) → counts_moved call ≡ false → call ≡ Calls (asks handle)
       → new ≡ (handle_or_0 (λ heap id. elim (refused_order heap id) [ Some refusal ↦ Err refusal | None ↦ Ok (record heap { order = order id heap.order }) ]) old handle).1 → Out
   orders asks order is handle still asked = turn (slot_of_handle old handle) refl
     where
@@ -354,7 +354,7 @@ module _ (old : Handles) (call : Call) (reply : Answer) (new : Handles) where
         by_owner false own g = turn own (slot_of_handle old handle) refl g
 
 -- Each call has an outcome; one that asks for no other size or kind has one in any handles.
-pub call_outcome : (old new : Handles) (command : C.HandleCommand) (answer : Answer) → C.HandleStep old command answer new → C.Outcome old (Calls command) answer new
+pub call_outcome : (old new : Handles) (command : C.Command C.OfHandles) (answer : Answer) → C.HandleStep old command answer new → C.Outcome old (Calls command) answer new
 call_outcome old new (GlobalAlloc flags size) (Word handle) step = allocates old _ _ new flags size _ refl refl step
 call_outcome old new (GlobalFree handle) answer step = frees old _ _ new _ refl step.1
 call_outcome old new (GlobalLock handle) answer step = locks old _ _ new _ refl step.1

@@ -21,14 +21,16 @@ pub use Rattle.w16_model.specs.Bytes.{part, put_part}
 unfoldable pub use Rattle.w16_model.specs.Bytes.{repeated}
 pub use Rattle.w16_model.specs.CallLaws.{BystandersLaw, FarEffect, FarEffectLaw, IsAbout, IsKeptOrDiscarded, IsNewestOf, IsWritten, KeepsContents, OnlyLeave, HasNewSize, SizeLaw}
 pub use Rattle.w16_model.specs.CallLaws.{PinnedStayLaw, Reaches, SlotsLaw, handle_in, may_change, may_move_own, next_slot, slot_after}
-pub use Rattle.w16_model.specs.Calls.{Answer, GlobalAllocs, GlobalCompacts, HandleCommand, HandleStep, HasNoSlots, IsEmptyFixed, IsRefusedAlloc, IsTooLong, alloc_options, free_own, global_free, global_lock, global_unlock, handle_or_0, has_flag, is_absent_asked, kind_asked, locks_at, rounded_size}
+pub use Rattle.w16_model.specs.Commands.{AnyCommand, Command, Family}
+pub use Rattle.w16_model.specs.Commands.Family.{OfHandles}
+pub use Rattle.w16_model.specs.Calls.{Answer, GlobalAllocs, GlobalCompacts, HandleStep, HasNoSlots, IsEmptyFixed, IsRefusedAlloc, IsTooLong, alloc_options, free_own, global_free, global_lock, global_unlock, handle_or_0, has_flag, is_absent_asked, kind_asked, locks_at, rounded_size}
 pub use Rattle.w16_model.specs.Calls.Answer.{Dword, Walked, Word}
-pub use Rattle.w16_model.specs.Calls.HandleCommand.{GetSelectorBase, GetSelectorLimit, GlobalAlloc, GlobalCompact, GlobalFlags, GlobalFree, GlobalHandle, GlobalLRUNewest, GlobalLRUOldest, GlobalLock, GlobalSize, GlobalUnlock, Moved, Walk}
+pub use Rattle.w16_model.specs.Commands.Command.{GetSelectorBase, GetSelectorLimit, GlobalAlloc, GlobalCompact, GlobalFlags, GlobalFree, GlobalHandle, GlobalLRUNewest, GlobalLRUOldest, GlobalLock, GlobalSize, GlobalUnlock, Moved, Walk}
 pub use Rattle.w16_model.specs.Changes.{absent, newest, oldest, removed, touched, update, with_newest, with_object, with_ordered, without}
 pub use Rattle.w16_model.specs.Discards.{blocks_without, eligible, fits_in_place, growth_for, is_about, is_member, is_pinned_id, needed, none_discarded_if, prefix_for, room_for, snapshot}
 pub use Rattle.w16_model.specs.Far.{FarAnswer, after_write, data_write, far_at, far_bytes, far_fault, far_part, far_read, far_slot, far_write, is_past}
 pub use Rattle.w16_model.specs.Far.FarAnswer.{Bytes, Done, Fault}
-pub use Rattle.w16_model.specs.Far.FarCommand.{Fill, Read, Write}
+pub use Rattle.w16_model.specs.Commands.Command.{Fill, Read, Write}
 pub use Rattle.w16_model.specs.Fewest.{AllocatesFewest, AllocationLaw, CompactionLaw, GlobalAllocLaw, GlobalCompactLaw, HasNoStretch, IsMostAfter, LacksRoom, MakesMost}
 pub use Rattle.w16_model.specs.Gap.{ArePlaced, IsClear, IsGapOf, IsHole, IsLaid, Misses, begins_in, block_end, first_from, holds_still, hole_after, is_any, is_loose, is_pinned, largest, longest_hole, loose_bytes, room, room_from, starts}
 pub use Rattle.w16_model.specs.Handles.{Gives, Handles, IsFreeRun, IsFreeSlot, IsSlot, Part, far_pointer, handle_of}

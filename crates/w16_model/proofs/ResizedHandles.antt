@@ -91,7 +91,7 @@ kept_by old new call answer is (C.IsResized r) = subst AreHandles (sym r.rest) (
     (none_owned _ _ (sym (ap (λ p. C.unwrap_or (C.option_map (C.is_owned old) p) false) r.named.found) ∙ r.own))) (moved_bytes old.heap r.heap))
 
 pub handle_law : C.HandleLaw
-handle_law old new command answer is step = kept_by old new (Calls _) answer is (outcome old new _ _ is step)
+handle_law old new command answer is step = kept_by old new (Calls command) answer is (outcome old new (Calls command) answer is step)
 
 pub resize_law : C.ResizeLaw
 resize_law old new handle size flags answer is step = kept_by old new (ReAllocs _ size flags) (Word _) is (outcome old new _ _ is step)

@@ -5,14 +5,14 @@ use Rattle.std.specs.Prelude.{◌==◌, ◌&&◌, ◌≡◌, ◌≢◌, ℕ, ◌
 use specs.declared.TheConstants.{REACH, GMEM_MOVEABLE, GMEM_MODIFY, LARGEST_SIZE}
 use specs.Heap.{Heap, Object, object_at, bytes_at, is_in_order, is_pinned_object, size_of}
 use specs.Handles.{Handles, slot_of_handle, part_of_selector, selector_in, offset_in, slots_for, handle_of}
-use specs.Calls.HandleCommand.{GlobalAlloc, GlobalFree, GlobalLock, GlobalUnlock, GlobalCompact, GlobalLRUNewest, GlobalLRUOldest}
-use specs.Far.FarCommand.{Read, Write, Fill}
+use specs.Commands.{Command, Family.OfFar}
+use specs.Commands.Command.{GlobalAlloc, GlobalFree, GlobalLock, GlobalUnlock, GlobalCompact, GlobalLRUNewest, GlobalLRUOldest, Read, Write, Fill}
 use specs.Far.FarAnswer.{Bytes, Done, Fault}
 use specs.Outcomes.{Call, CallStep, IsNamed}
 use specs.Outcomes.Call.{Calls, ReAllocs}
 use specs.Reallocation.{without_all, IsResized, LacksPlace, ReallocatesFewest}
 use specs.Calls.{Answer, has_flag, rounded_size}
-use specs.Far.{FarCommand, FarAnswer}
+use specs.Far.{FarAnswer}
 use specs.Resizes.{LacksRun, realloc_options, rehoused, GlobalReAllocs}
 use specs.{declared.Kind.TheVariants.Discardable, Bytes.part, Bytes.repeated, Discards.is_member, Changes.without, Law.StandsStill, Calls.Answer.Word, Owned.is_owned, Law.AreHandles, Law.FarStep}
 
@@ -127,7 +127,7 @@ pub record Reaches (old : Handles) (selector end : ℕ) (becomes : ℕ → List 
   pub rest : new ≡ record old { heap = record old.heap { objects = new.heap.objects; order = new.heap.order } }
 
 -- a read answers these bytes and changes none; a write puts its bytes there; a fault changes nothing
-abbrev pub FarEffect : Handles → FarCommand → FarAnswer → Handles → Type 0
+abbrev pub FarEffect : Handles → Command OfFar → FarAnswer → Handles → Type 0
 FarEffect old command (Fault fault) new = new ≡ old
 FarEffect old (Read pointer count) (Bytes bytes) new = Reaches old (selector_in pointer) (offset_in pointer + count) (λ begin before after. (after ≡ before) × (bytes ≡ part before (begin + offset_in pointer) count)) new
 FarEffect old (Write pointer slice) Done new = Reaches old (selector_in pointer) (offset_in pointer + length slice) (λ begin before after. IsWritten before (begin + offset_in pointer) slice after) new
@@ -135,7 +135,7 @@ FarEffect old (Fill pointer count byte) Done new = Reaches old (selector_in poin
 FarEffect old command answer new = ⊥
 
 abbrev pub FarEffectLaw : Type 0
-FarEffectLaw = (old new : Handles) (command : FarCommand) (answer : FarAnswer) → AreHandles old → FarStep old command answer new → FarEffect old command answer new
+FarEffectLaw = (old new : Handles) (command : Command OfFar) (answer : FarAnswer) → AreHandles old → FarStep old command answer new → FarEffect old command answer new
 
 -- GlobalReAlloc.
 

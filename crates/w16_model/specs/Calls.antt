@@ -8,27 +8,12 @@ use specs.Request.{Allocates, Compacts, discards_needed, moved_bytes}
 use specs.OneObject.{Enters, after_lock, after_unlock, after_free, after_newest, after_oldest}
 use specs.Handles.{Handles, Gives, IsFreeRun, HasNoRun, slots_for, reached, slot_of_handle, part_of_selector, handle_of, selector_of, far_pointer, dword_of}
 use specs.{declared.Kind.Kind, declared.RoomOptions.RoomOptions, declared.Refusal.Refusal, declared.Attributes.Attributes, declared.Item.Item, Walk.IsWalk, Owned.owns}
+use specs.Commands.{Command, Family.OfHandles}
+use specs.Commands.Command.{GlobalAlloc, GlobalFree, GlobalLock, GlobalUnlock, GlobalSize, GlobalFlags, GlobalHandle, GetSelectorBase, GetSelectorLimit, GlobalCompact, GlobalLRUNewest, GlobalLRUOldest, Moved, Walk}
 use Rattle.std.specs.FinMap as finmap
 use Rattle.w16_model.specs.declared.Refusal.TheVariants as refusals
 
--- a call that names objects by handles or selectors, with its arguments as numbers
-pub data HandleCommand : Type 0 where
-  GlobalAlloc : (flags size : ℕ) → HandleCommand
-  GlobalFree : (handle : ℕ) → HandleCommand
-  GlobalLock : (handle : ℕ) → HandleCommand
-  GlobalUnlock : (handle : ℕ) → HandleCommand
-  GlobalSize : (handle : ℕ) → HandleCommand
-  GlobalFlags : (handle : ℕ) → HandleCommand
-  GlobalHandle : (selector : ℕ) → HandleCommand
-  GetSelectorBase : (selector : ℕ) → HandleCommand
-  GetSelectorLimit : (selector : ℕ) → HandleCommand
-  GlobalCompact : (size : ℕ) → HandleCommand
-  GlobalLRUNewest : (handle : ℕ) → HandleCommand
-  GlobalLRUOldest : (handle : ℕ) → HandleCommand
-  Moved : HandleCommand
-  Walk : HandleCommand
-
--- what such a call answers
+-- what a call that names objects by handles or selectors answers
 pub data Answer : Type 0 where
   Word : (value : ℕ) → Answer
   Dword : (value : ℕ) → Answer
@@ -205,7 +190,7 @@ selector_limit handles selector = elim (part_of_selector handles selector) [
 
 -- One step: the answer that may be given to a call, and the handles that it leaves.
 
-abbrev pub HandleStep : Handles → HandleCommand → Answer → Handles → Type 0
+abbrev pub HandleStep : Handles → Command OfHandles → Answer → Handles → Type 0
 HandleStep old (GlobalAlloc flags size) (Word handle) new = GlobalAllocs old flags size handle new
 HandleStep old (GlobalFree handle) answer new = Gives (global_free old handle) answer new
 HandleStep old (GlobalLock handle) answer new = Gives (global_lock old handle) answer new

@@ -2,17 +2,13 @@
 use Rattle.w16_model.specs
 use Rattle.std.specs.Prelude.{ℕ, ◌+◌, ◌*◌, Bool, ◌||◌, if◌then◌else◌, nat_lt, List, [], length, unwrap_or, Option, Some, None, option_map}
 use specs.declared.FarFault.TheVariants.{BadSelector, ReadOnly, NotPresent, Limit}
+use specs.Commands.{Command, Family.OfFar}
+use specs.Commands.Command.{Read, Write, Fill}
 use specs.Handles.{Handles, Part, part_of_selector}
 use specs.{declared.FarFault.FarFault, Bytes.part, Bytes.put_part, Heap.Heap, Heap.bytes_at, Changes.update, OneObject.after_touch, Owned.refuses_write, declared.TheConstants.REACH}
 
--- an access to bytes that a far pointer points to
-pub data FarCommand : Type 0 where
-  Read : (pointer count : ℕ) → FarCommand
-  Write : (pointer : ℕ) (bytes : List ℕ) → FarCommand
-  Fill : (pointer count byte : ℕ) → FarCommand
-
 -- the far pointer that an access has
-abbrev pub pointer_in : FarCommand → ℕ
+abbrev pub pointer_in : Command OfFar → ℕ
 pointer_in (Read pointer count) = pointer
 pointer_in (Write pointer bytes) = pointer
 pointer_in (Fill pointer count byte) = pointer

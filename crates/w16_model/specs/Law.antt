@@ -11,9 +11,10 @@ use specs.Heap.{Heap, Object, IsHeap, blocks, object_at, bytes_at, is_pinned_obj
 use specs.Request.{Settles, discarded, stays_for, Allocates, Reallocates}
 use specs.Table.{Table, IsTable, IsSound, heap_in, IsSameOutside}
 use specs.Handles.{Handles, slots_at, reached, slot_of_handle, part_of_selector, slot_of_selector, handle_of, selector_of, slots_for, IsFreeSlot, Gives, selector_in, offset_in}
-use specs.Calls.{HandleCommand, Answer, HandleStep}
-use specs.Far.{FarCommand, FarAnswer, far_read, far_write}
-use specs.Far.FarCommand.{Fill, Read, Write}
+use specs.Commands.{Command, Family.OfHandles, Family.OfFar}
+use specs.Calls.{Answer, HandleStep}
+use specs.Far.{FarAnswer, far_read, far_write}
+use specs.Commands.Command.{Fill, Read, Write}
 use specs.{declared.Block.Block, declared.Span.Span, declared.Kind.Kind, declared.Item.Item, declared.RoomOptions.RoomOptions, declared.Hold.TheVariants.Pinned, Changes.with_ordered, Changes.removed}
 use specs.{Walk.IsWalk, Walk.IsItem, declared.Attributes.Attributes, declared.Owned.Owned, OneObject.Enters, Owned.owned_at, Owned.revival_options, Bytes.repeated, Ends.ending}
 use specs.{Ends.is_answered}
@@ -80,13 +81,13 @@ abbrev pub without_slot : Handles → ℕ → Handles
 without_slot handles slot = record handles { heap = removed handles.heap slot; attributes = finmap.remove handles.attributes slot }
 
 -- what an access writes are bytes
-abbrev pub IsFarCommand : FarCommand → Type 0
+abbrev pub IsFarCommand : Command OfFar → Type 0
 IsFarCommand (Read pointer count) = Unit {0}
 IsFarCommand (Write pointer bytes) = All (λ b. b < 256) bytes
 IsFarCommand (Fill pointer count byte) = byte < 256
 
 -- one step of a far access: the answer that it is given, and the handles that it leaves
-abbrev pub FarStep : Handles → FarCommand → FarAnswer → Handles → Type 0
+abbrev pub FarStep : Handles → Command OfFar → FarAnswer → Handles → Type 0
 FarStep old (Read pointer count) answer new = Gives (far_read old (selector_in pointer) (offset_in pointer) count) answer new
 FarStep old (Write pointer bytes) answer new = Gives (far_write old (selector_in pointer) (offset_in pointer) bytes) answer new
 FarStep old (Fill pointer count byte) answer new = Gives (far_write old (selector_in pointer) (offset_in pointer) (repeated count byte)) answer new
@@ -255,4 +256,4 @@ EmptyLaw = (memory slots : ℕ) → slots ≤ MOST_SLOTS → AreHandles (empty_h
 
 -- each call keeps what holds of handles: no two objects share a byte, and the rest
 abbrev pub HandleLaw : Type 0
-HandleLaw = (old new : Handles) (command : HandleCommand) (answer : Answer) → AreHandles old → HandleStep old command answer new → AreHandles new
+HandleLaw = (old new : Handles) (command : Command OfHandles) (answer : Answer) → AreHandles old → HandleStep old command answer new → AreHandles new

@@ -1,3 +1,4 @@
+pub mod Commands
 pub mod Bytes
 pub mod Gap
 pub mod Arrangement

@@ -8,16 +8,17 @@ use specs.Changes.{with_object, with_ordered, with_newest, newest, oldest, touch
 use specs.Request.{IsNew, Settles, Reallocates, discarded, stays_for, moved_bytes}
 use specs.OneObject.{Enters, refused_order, after_modify}
 use specs.Handles.{Handles, IsFreeRun, slots_for, slot_of_handle, handle_of}
-use specs.Calls.{HandleCommand, Answer, HandleStep, has_flag, kind_asked, alloc_options, rounded_size}
+use specs.Commands.{Command, Family.OfHandles}
+use specs.Calls.{Answer, HandleStep, has_flag, kind_asked, alloc_options, rounded_size}
 use specs.Calls.Answer.{Word, Dword}
-use specs.Calls.HandleCommand.{GlobalAlloc, GlobalFree, GlobalLock, GlobalUnlock, GlobalCompact, GlobalLRUNewest, GlobalLRUOldest}
+use specs.Commands.Command.{GlobalAlloc, GlobalFree, GlobalLock, GlobalUnlock, GlobalCompact, GlobalLRUNewest, GlobalLRUOldest}
 use specs.Resizes.{GlobalReAllocs, GetsRun, rehoused, with_run, realloc_options, kind_modified}
 use specs.{declared.Attributes.Attributes, Gap.is_pinned, Owned.owns, Law.without_slot, Reallocation.ChangesKind, Law.AreHandles}
 use Rattle.std.specs.FinMap as finmap
 
 -- A call on handles: GlobalReAlloc, of which GlobalDiscard is a case, or any other.
 pub data Call : Type 0 where
-  Calls : HandleCommand → Call
+  Calls : Command OfHandles → Call
   ReAllocs : (handle size flags : ℕ) → Call
 
 abbrev pub CallStep : Handles → Call → Answer → Handles → Type 0
@@ -64,7 +65,7 @@ pub record Frees (old : Handles) (call : Call) (new : Handles) : Type 0 where
   pub rest : new ≡ without_slot old slot
 
 -- GlobalLRUNewest or GlobalLRUOldest moves an object that is in the order of use to an end of it.
-pub record Orders (old : Handles) (call : Call) (asks : ℕ → HandleCommand) (order : ℕ → List ℕ → List ℕ) (new : Handles) : Type 0 where
+pub record Orders (old : Handles) (call : Call) (asks : ℕ → Command OfHandles) (order : ℕ → List ℕ → List ℕ) (new : Handles) : Type 0 where
   pub handle : ℕ
   pub slot : ℕ
   pub object : Object

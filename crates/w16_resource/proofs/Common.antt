@@ -33,8 +33,8 @@ pub use Rattle.w16_loading.proofs.ShrunkWorlds.{value_gone, value_left}
 pub use Rattle.w16_loading.proofs.Stepping.{freed_by, resource_load, with_count}
 pub use Rattle.w16_loading.specs.Answers.{FetchesFrom, told}
 pub use Rattle.w16_loading.specs.Fewest.{FewestOver, FillsFewest}
-pub use Rattle.w16_loading.specs.Families.Command.{OfResources}
-pub use Rattle.w16_loading.specs.Families.ResourceCommand.{LoadResource, LockResource}
+pub use Rattle.w16_model.specs.Commands.Family.{OfResources}
+pub use Rattle.w16_model.specs.Commands.Command.{LoadResource, LockResource}
 pub use Rattle.w16_loading.specs.Fetch.{Fetching, IsImage}
 pub use Rattle.w16_loading.specs.File.{Resource}
 pub use Rattle.w16_loading.specs.Free.{is_left_over, without_orphans}

@@ -4,7 +4,6 @@ use Rattle.w16_resource.proofs.Common.{Bool, GRAIN, Held, IsWritten, LARGEST_OWN
 use Rattle.w16_resource.proofs.Common.{take, true, zero, ℕ, ◌<◌, ◌==◌, ◌||◌, ◌∙◌, ◌≡◌, ◌≤◌, Store, Owned, Entry, is_long}
 use Rattle.w16_reloc.specs.Sound.{IsSound}
 use Rattle.w16_loader.specs.Fetching.{GivesOwned}
-use Rattle.std.specs.FinMap as finmap
 use Rattle.w16_reloc.specs.declared.fault.RelocFault.TheVariants as relocs
 use Rattle.w16_store.specs.declared.store.StoreFault.TheVariants as stores
 

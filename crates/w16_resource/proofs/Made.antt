@@ -8,6 +8,7 @@ use proofs.Taken.{back, here, named, taken, lacks_new, taken_back}
 use Rattle.w16_loading.proofs.{CodeSteps.entered_code, Fillings.fetch_outcome, KeptCode.code_kept, Owners.loaded_of, Owners.resource_object, Requests.fetch_fills, ResourceWorlds.made_world}
 use Rattle.std.specs.FinMap as finmap
 use Rattle.w16_loading.specs.Modules as loading
+use Rattle.w16_loading.specs.Families.AnyCommand.{any}
 
 -- a free slot has no load
 none_loaded : (old : LoadingWorld) → C.IsLoadingWorld old → (slot : ℕ) → C.IsFreeSlot old.handles slot → finmap.get old.loads slot ≡ None
@@ -46,6 +47,9 @@ module _ {honest : Type 0} {old : LoadingWorld} (is : C.IsLoadingOver honest old
     λ h. code_kept ne_format old made (entered_code ne_format old t.slot handle place r t.free) (is.1 h),
   )
 
+  abbrev Loads : Reply → LoadingWorld → Type 0
+  Loads reply left = C.FewestOver honest ne_format old (any _ (C.LoadResource handle place)) reply left
+
   -- With its object and its load it is fetched.
   abbrev Fetches : Option C.FetchFault → LoadingWorld → LoadingWorld → Type 0
   Fetches fault new mid = C.IsLoadingOver honest mid → LacksBytes mid.handles name → C.IsSome (finmap.get mid.loads (name / 8)) → C.FetchesResource honest mid (name / 8) fault new
@@ -62,9 +66,6 @@ module _ {honest : Type 0} {old : LoadingWorld} (is : C.IsLoadingOver honest old
     fetched = subst (λ q. C.FetchesResource honest made q fault new) at
         (subst (Fetches fault new) made_is fetch sound (lacks_new old.handles t.slot r name object_is) (ap is_some (inserted_here old.loads t.slot load (name / 8) at)))
 
-    abbrev Loads : Reply → LoadingWorld → Type 0
-    Loads reply left = C.FewestOver honest ne_format old (C.OfResources (C.LoadResource handle place)) reply left
-
     -- the step, by what is left in the end
     step : (reply : Reply) (h : C.Handles) (l : FinMap nat_cmp loading.Load)
         → (reply, record new { handles = h; loads = l; failures = old.failures }) ≡ C.resource_outcome fault (handle_of r.kind t.slot) (record new { failures = old.failures }) old
@@ -78,14 +79,14 @@ module _ {honest : Type 0} {old : LoadingWorld} (is : C.IsLoadingOver honest old
 
   pub loads_first : {slot : ℕ} (s : slot ≡ name / 8) {loads : FinMap nat_cmp loading.Load} → loads ≡ finmap.insert old.loads slot load → {new : LoadingWorld}
       → Fetches None new (record old { handles = entered; loads = loads }) → C.IsLater old.files old.failures new.files new.failures
-      → C.FewestOver honest ne_format old (C.OfResources (C.LoadResource handle place)) (Word name) new
+      → Loads (Word name) new
   loads_first s e {new = new} fetch stays = step s e fetch stays (Word name) new.handles new.loads (λ i. (Word (object_is i), record new { failures = old.failures }))
 
   -- or all is as it was
   pub loads_none : {slot : ℕ} (s : slot ≡ name / 8) {loads : FinMap nat_cmp loading.Load} → loads ≡ finmap.insert old.loads slot load → {fault : C.FetchFault} {new : LoadingWorld}
       → Fetches (Some fault) new (record old { handles = entered; loads = loads }) → C.IsLater old.files old.failures new.files new.failures
       → {reply : Reply} → ((handle : ℕ) (made old : LoadingWorld) → (reply, old) ≡ C.resource_outcome (Some fault) handle made old)
-      → C.FewestOver honest ne_format old (C.OfResources (C.LoadResource handle place)) reply (record new { handles = C.without_slot new.handles slot; loads = finmap.remove new.loads slot })
+      → Loads reply (record new { handles = C.without_slot new.handles slot; loads = finmap.remove new.loads slot })
   loads_none {slot = slot} s e {fault = fault} {new = new} fetch stays {reply = reply} says =
       step s e fetch stays reply (C.without_slot new.handles slot) (finmap.remove new.loads slot) ((λ i. (reply, gone i)) ∙ says (handle_of r.kind t.slot) (record new { failures = old.failures }) old)
     where

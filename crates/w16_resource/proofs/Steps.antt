@@ -7,6 +7,7 @@ use proofs.Locked.{none_named, has_bytes, is_fetched, lock_is}
 use proofs.{Fetched.source_resource, Named.here}
 use Rattle.w16_model.specs.Calls as calls
 use Rattle.w16_loading.specs.Modules as loading
+use Rattle.w16_loading.specs.Families.AnyCommand.{any}
 
 -- the value of parts that are open
 abbrev pub seen : {opened closed : LoadingWorld} → opened ≡ closed → LoadingWorld
@@ -22,7 +23,7 @@ module _ (honest : Type 0) (old : LoadingWorld) where
 
   module _ (handle place : ℕ) where
     abbrev Loads : Reply → LoadingWorld → Type 0
-    Loads reply new = C.FewestOver honest ne_format old (C.OfResources (C.LoadResource handle place)) reply new
+    Loads reply new = C.FewestOver honest ne_format old (any _ (C.LoadResource handle place)) reply new
 
     -- Loads that read no file.
     plain : (n : ℕ) (left : FinMap nat_cmp loading.Load) → C.LoadsResource (fetching old.failures) old handle place (Word n) (record old { loads = left })
@@ -53,7 +54,7 @@ module _ (honest : Type 0) (old : LoadingWorld) where
   -- Locks.
   module _ (handle : ℕ) where
     abbrev Locks : Reply → LoadingWorld → Type 0
-    Locks reply new = C.FewestOver honest ne_format old (C.OfResources (C.LockResource handle)) reply new
+    Locks reply new = C.FewestOver honest ne_format old (any _ (C.LockResource handle)) reply new
 
     pub unnamed : None ≡ C.slot_of_resource old handle → Locks (Dword 0) old
     unnamed none = record { counted = omega arith; files = refl; step = none_named (fetching old.failures) old handle (Dword 0) old (sym none) refl refl }

@@ -3,8 +3,8 @@ ghost use Rattle.std.specs.Prelude.{◌≡◌, ◌≤◌, ◌<◌, ℕ, true, fa
 ghost use Rattle.w16_store.specs.Later.{IsLater, RoseIf};
 ghost use Rattle.w16_model.specs.Calls.{rounded_size};
 ghost use Rattle.w16_loading.specs.Fewest.{FewestOver};
-ghost use Rattle.w16_loading.specs.Families.Command.{OfResources};
-ghost use Rattle.w16_loading.specs.Families.ResourceCommand.{LoadResource};
+ghost use Rattle.w16_model.specs.Commands.Family.{OfResources};
+ghost use Rattle.w16_model.specs.Commands.Command.{LoadResource};
 ghost use Rattle.w16_loading.specs.File as file;
 ghost use Rattle.w16_loading.specs.Modules.{LoadingWorld};
 ghost use Rattle.w16_loading.specs.Replies.{Reply};
@@ -16,6 +16,7 @@ ghost use Rattle.w16_resource.specs.Loads.{load_in};
 ghost use Rattle.w16_resource.specs.Parts.{IsLoadingOver, word_in};
 ghost use Rattle.w16_resource.specs.Sources.{IsFirstLoad, is_long};
 ghost use Rattle.w16_loader.specs.Devices.{is_of_device};
+ghost use Rattle.w16_loading.specs.Families.AnyCommand.{any};
 
 use crate::fetching::is_too_long;
 use crate::finding::source_of;
@@ -84,7 +85,7 @@ impl<S: Store + Drop, A: Allocator + Copy> Loading<S, A> {
     /// it did when the module was loaded (`Damaged`). The file is read before room is asked for. After 0 and after an error all is as it was.
     pub fn load_resource(&mut self, handle: u16, place: u16) -> Result<u16, FetchFault>
         ensures step { IsLoadingOver S.is_honest self.old
-            → FewestOver S.is_honest ne_format self.old (OfResources (LoadResource handle place)) (word_in result) self.new }
+            → FewestOver S.is_honest ne_format self.old (any _ (LoadResource handle place)) (word_in result) self.new }
         ensures stays { IsLater self.old.files self.old.failures self.new.files self.new.failures }
         ensures device { IfErr result (RoseIf is_of_device self.old.failures self.new.failures) }
     {
@@ -106,7 +107,7 @@ impl<S: Store + Drop, A: Allocator + Copy> Loading<S, A> {
     fn load_new(&mut self, handle: u16, place: u16, kind: Kind, len: u32) -> Result<u16, FetchFault>
         requires { is_long len ≡ false }
         ensures step { (r : file.Resource) → IsLoadingOver S.is_honest self.old → IsFirstLoad self.old handle place r → r.kind ≡ kind → r.length_in ≡ len
-            → FewestOver S.is_honest ne_format self.old (OfResources (LoadResource handle place)) (word_in result) self.new }
+            → FewestOver S.is_honest ne_format self.old (any _ (LoadResource handle place)) (word_in result) self.new }
         ensures stays { IsLater self.old.files self.old.failures self.new.files self.new.failures }
         ensures device { IfErr result (RoseIf is_of_device self.old.failures self.new.failures) }
     {

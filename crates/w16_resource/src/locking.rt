@@ -2,14 +2,15 @@
 ghost use Rattle.std.specs.Prelude.{◌≡◌, ◌<◌, ℕ, true, Some, option_map, IfSome, IfErr};
 ghost use Rattle.w16_store.specs.Later.{IsLater, RoseIf};
 ghost use Rattle.w16_loading.specs.Fewest.{FewestOver};
-ghost use Rattle.w16_loading.specs.Families.Command.{OfResources};
-ghost use Rattle.w16_loading.specs.Families.ResourceCommand.{LockResource};
+ghost use Rattle.w16_model.specs.Commands.Family.{OfResources};
+ghost use Rattle.w16_model.specs.Commands.Command.{LockResource};
 ghost use Rattle.w16_loading.specs.Modules.{LoadingWorld};
 ghost use Rattle.w16_loading.specs.Resource.{lock_outcome, slot_of_resource};
 ghost use Rattle.w16_format.specs.Ne.{ne_format};
 ghost use Rattle.w16_resource.specs.Loads.{load_in};
 ghost use Rattle.w16_resource.specs.Parts.{IsLoadingOver, dword_in};
 ghost use Rattle.w16_loader.specs.Devices.{is_of_device};
+ghost use Rattle.w16_loading.specs.Families.AnyCommand.{any};
 
 use crate::listing::Load;
 use crate::parts::Loading;
@@ -33,7 +34,7 @@ impl<S: Store + Drop, A: Allocator + Copy> Loading<S, A> {
     /// `LockResource`: as `GlobalLock`, a far pointer to the first byte of a resource's object, which is fetched before where it has no bytes. 0 for
     /// a handle of no resource, and where there is no room for it. An error is why it got no bytes otherwise.
     pub fn lock_resource(&mut self, handle: u16) -> Result<u32, FetchFault>
-        ensures step { IsLoadingOver S.is_honest self.old → FewestOver S.is_honest ne_format self.old (OfResources (LockResource handle)) (dword_in result) self.new }
+        ensures step { IsLoadingOver S.is_honest self.old → FewestOver S.is_honest ne_format self.old (any _ (LockResource handle)) (dword_in result) self.new }
         ensures stays { IsLater self.old.files self.old.failures self.new.files self.new.failures }
         ensures device { IfErr result (RoseIf is_of_device self.old.failures self.new.failures) }
     {

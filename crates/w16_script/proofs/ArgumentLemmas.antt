@@ -1,7 +1,7 @@
 -- Lemmas on the arguments of commands.
 use Rattle.w16_script.proofs.Common as C
-use Rattle.w16_script.proofs.Common.{◌≡◌, ◌≢◌, ℕ, ◌*◌, ◌^◌, ◌<◌, ◌≤◌, List, [], ◌∷◌, refl, ap, sym, subst, ◌∙◌, arith, Ok, Some, None, Command, Name, Label, IsNumber, Argument, IsArgument, AreArguments, Makes}
-use Rattle.w16_script.specs.declared.arguments.Parameter.TheVariants as p
+use Rattle.w16_script.proofs.Common.{◌≡◌, ◌≢◌, ℕ, ◌*◌, ◌^◌, ◌<◌, ◌≤◌, List, [], ◌∷◌, refl, ap, sym, subst, ◌∙◌, arith, Ok, Some, None, Name, Label, IsNumber, Argument, IsArgument, AreArguments, Makes}
+use Rattle.w16_machine.specs.declared.name.Parameter.TheVariants as p
 
 -- a word of another length doesn't have that many bytes
 pub length_bytes : (word bytes : _) → C.decode_of word ≡ Ok bytes → C.length word ≡ 2 * C.length bytes

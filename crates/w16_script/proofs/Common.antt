@@ -24,15 +24,17 @@ unfoldable pub use Rattle.hex.specs.Hex.{encode_with}
 pub use Rattle.hex.specs.declared.error.FromHexError.{FromHexError}
 pub use Rattle.hex.specs.declared.error.FromHexError.TheVariants.{InvalidHexCharacter}
 pub use Rattle.w16_global.proofs.Common.{cut_on}
-pub use Rattle.w16_kernel.proofs.Common.{Command, Event, command_of, common_steps, promised_append, promised_none, reply_of, run_append, ◌&&◌}
+pub use Rattle.w16_loading.specs.Families.{AnyCommand}
+pub use Rattle.w16_kernel.proofs.Common.{Event, command_of, common_steps, promised_append, promised_none, reply_of, run_append, ◌&&◌}
 pub use Rattle.w16_loading.proofs.Common.{MatchOption, count_by, if◌then◌else◌, list_all, nat_lt, slice_index, ◌==◌}
-pub use Rattle.w16_loading.specs.File.{Label}
+pub use Rattle.w16_model.specs.Commands.{Label}
 pub use Rattle.w16_machine.specs.Law.{IsWorldWalk}
 pub use Rattle.w16_model.proofs.Common.{IsFirstItem, IsItem, cases_lt, nat_tests}
 pub use Rattle.w16_model.proofs.Cuts.{IsCut, Next, all_done, cut_more, cut_none, done_more, done_none, next}
 pub use Rattle.w16_model.specs.declared.Item.{Item}
 pub use Rattle.w16_script.specs.Feeding.{FailsAt, Feeds, Stops, StopsHere}
-pub use Rattle.w16_script.specs.Grammar.{AreArguments, Argument, GoesTo, IsArgument, IsLabel, IsText, Makes, Reads, Said, Spells, all_names, command_with, is_silent, parameters_of, target_of, text_of}
+pub use Rattle.w16_machine.specs.Rows.{Argument}
+pub use Rattle.w16_script.specs.Grammar.{AreArguments, GoesTo, IsArgument, IsLabel, IsText, Makes, Reads, Said, Spells, command_with, is_silent, parameters_of, target_of, text_of}
 pub use Rattle.w16_script.specs.Laws.{is_plain}
 pub use Rattle.w16_script.specs.Numbers.{BeginsWith, IsForm, IsLiteral, IsNumber, IsOfRegister, IsSum, is_digit, place_value}
 pub use Rattle.w16_script.specs.Output.{Prints, PrintsLine, RunsLines, has_reply}
@@ -45,9 +47,9 @@ pub use Rattle.w16_script.specs.Unfinished.{progress_of, state_of}
 pub use Rattle.w16_script.specs.Whole.{Fails, FailsLater, Finishes, Script, StopsLast, StopsWithin}
 pub use Rattle.w16_script.specs.Words.{is_blank, with_byte, words_of}
 pub use Rattle.w16_script.specs.Written.{AppendsFront}
-pub use Rattle.w16_script.specs.declared.arguments.Parameter.{Parameter}
+pub use Rattle.w16_machine.specs.declared.name.Parameter.{Parameter}
 pub use Rattle.w16_script.specs.declared.bytes.TheConstants.{VALUES}
-pub use Rattle.w16_script.specs.declared.name.Name.{Name}
+pub use Rattle.w16_machine.specs.declared.name.Name.{Name}
 pub use Rattle.w16_script.specs.declared.outcome.Ended.{Ended}
 pub use Rattle.w16_script.specs.declared.outcome.RunFault.{RunFault}
 pub use Rattle.w16_script.specs.declared.outcome.RunFault.TheVariants.{Memory, Read, TooLong, Write}

@@ -4,8 +4,8 @@ use proofs.Common as C
 use proofs.Common.{◌≡◌, ℕ, Bool, true, List, [], ◌∷◌, refl, arith, inl, inr, list_all, nat_tests, Name, Label, Argument, Said, Reads, is_plain}
 use proofs.RegisterLemmas.{two_digits}
 use Rattle.std.proofs.lemmas.List.Folds.{list_all-append}
-use Rattle.w16_script.specs.declared.name.Name.TheVariants as name
-use Rattle.w16_script.specs.declared.arguments.Parameter.TheVariants as p
+use Rattle.w16_machine.specs.declared.name.Name.TheVariants as name
+use Rattle.w16_machine.specs.declared.name.Parameter.TheVariants as p
 
 abbrev plain_word : List ℕ → Bool
 plain_word word = list_all is_plain word
@@ -83,5 +83,5 @@ line_plain : (line : List ℕ) → are_plain (C.words_of line) ≡ true → plai
 line_plain [] e = refl
 line_plain (byte ∷ rest) e = grind (arith, nat_tests, with_byte-parts, line_plain rest)
 
-pub plain : (registers line : List ℕ) (target : C.Option ℕ) (command : C.Command) → Reads registers line (Said.Says target command) → list_all is_plain line ≡ true
+pub plain : (registers line : List ℕ) (target : C.Option ℕ) (command : C.AnyCommand) → Reads registers line (Said.Says target command) → list_all is_plain line ≡ true
 plain registers line target command h = line_plain line (spelled_plain h.1)

@@ -3,8 +3,8 @@ use Rattle.w16_script.proofs
 use proofs.Common as C
 use proofs.Common.{◌≡◌, ℕ, List, [], ◌∷◌, Some, None, sym, ap, ◌∙◌, refl, arith, decimal, if◌then◌else◌, Name, Label, Argument, Makes, Said, Reads, text_of}
 use proofs.OneNumberLemmas.{number-same, literal_same}
-use Rattle.w16_script.specs.declared.name.Name.TheVariants as name
-use Rattle.w16_script.specs.declared.arguments.Parameter.TheVariants as p
+use Rattle.w16_machine.specs.declared.name.Name.TheVariants as name
+use Rattle.w16_machine.specs.declared.name.Parameter.TheVariants as p
 
 -- Arguments.
 
@@ -30,12 +30,20 @@ module _ (registers : List ℕ) where
 
 -- Names.
 
+-- all of them
+abbrev all_names : List Name
+all_names = name.GlobalAlloc ∷ name.GlobalFree ∷ name.GlobalLock ∷ name.GlobalUnlock ∷ name.GlobalSize ∷ name.GlobalFlags ∷ name.GlobalHandle ∷ name.GetSelectorBase ∷ name.GetSelectorLimit
+    ∷ name.GlobalCompact ∷ name.GlobalReAlloc ∷ name.GlobalDiscard ∷ name.GlobalLRUNewest ∷ name.GlobalLRUOldest ∷ name.Moved ∷ name.Walk ∷ name.Read ∷ name.Write ∷ name.Fill
+    ∷ name.Builtin ∷ name.LoadModule ∷ name.LoadLibrary ∷ name.FreeLibrary ∷ name.FreeModule ∷ name.GetModuleHandle ∷ name.GetModuleUsage ∷ name.GetProcAddress
+    ∷ name.FindResource ∷ name.LoadResource ∷ name.SizeofResource ∷ name.LockResource ∷ name.FreeResource
+    ∷ name.LocalInit ∷ name.LocalAlloc ∷ name.LocalReAlloc ∷ name.LocalDiscard ∷ name.LocalFree ∷ name.LocalLock ∷ name.LocalUnlock ∷ name.LocalSize ∷ name.LocalFlags ∷ name.LocalHandle ∷ name.LocalCompact ∷ name.DS ∷ []
+
 -- the first of these that is written so
 found : List ℕ → List Name → C.Option Name
 found text [] = None
 found text (name ∷ names) = if C.bytes_eq text (text_of name) then Some name else found text names
 
-found-own : (n : Name) → found (text_of n) C.all_names ≡ Some n
+found-own : (n : Name) → found (text_of n) all_names ≡ Some n
 unfolding found
 found-own name.GlobalAlloc = refl
 found-own n = refl

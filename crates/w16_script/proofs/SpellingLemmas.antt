@@ -1,5 +1,6 @@
 -- Lemmas on commands and their targets.
-use Rattle.w16_script.proofs.Common.{◌≡◌, ℕ, List, ◌∷◌, Option, Some, None, ap, ◌∙◌, false, Command, Name, words_of, GoesTo, Makes, Said, Reads, is_silent, text_of}
+use Rattle.w16_script.proofs.Common.{◌≡◌, ℕ, List, ◌∷◌, Option, Some, None, ap, ◌∙◌, false, Name, words_of, GoesTo, Makes, Said, Reads, is_silent, text_of}
+use Rattle.w16_loading.specs.Families.{AnyCommand}
 use Rattle.w16_script.proofs.ReadingLemmas.{name-one, behind_one}
 
 -- neither a register and an equals sign nor a name
@@ -8,7 +9,7 @@ no_head word behind loose none None name rest goes = none name (cc)
 no_head word behind loose none (Some r) name rest goes = loose r (text_of name ∷ rest) goes
 
 -- it is bad if they make none
-pub Reads-unmade : (registers line words rest target name : _) → words_of line ≡ words → is_silent words ≡ false → GoesTo words target (text_of name ∷ rest) → ((command : Command) → Makes registers name rest command → ⊥) → Reads registers line Said.Bad
+pub Reads-unmade : (registers line words rest target name : _) → words_of line ≡ words → is_silent words ≡ false → GoesTo words target (text_of name ∷ rest) → ((command : AnyCommand) → Makes registers name rest command → ⊥) → Reads registers line Said.Bad
 Reads-unmade registers line words rest target name is loud goes none = (
   ap is_silent is ∙ loud,
   λ other command spells.

@@ -1,6 +1,7 @@
 -- What is said of a line that is bad.
 use Rattle.std.specs.Prelude.{◌≡◌, length}
-use Rattle.w16_script.specs.{declared.name.Name.Name, declared.expected.Expected.Expected, Words.words_of, Grammar.text_of, Grammar.parameters_of}
+use Rattle.w16_machine.specs.declared.name.Name.{Name}
+use Rattle.w16_script.specs.{declared.expected.Expected.Expected, Words.words_of, Grammar.text_of, Grammar.parameters_of}
 use Rattle.w16_script.specs.declared.expected.Expected.TheVariants as expected
 
 -- a word that is said to be no command's name is none, and a command is said to take as many parameters as it does

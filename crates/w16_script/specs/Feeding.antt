@@ -3,7 +3,7 @@ use Rattle.w16_script.specs
 use Rattle.std.specs.Prelude.{◌≡◌, ℕ, ◌+◌, List, [], ◌∷◌, ◌++◌, length, map, count_by, Option}
 use Rattle.std.specs.{List.flat_map, List.AllByRecursion, Io.KnownBytes.Keeps}
 use Rattle.w16_machine.specs.{Law.IsSame, Machine.Event, Machine.Run, Machine.Steps}
-use Rattle.w16_loading.specs.Families.{Command}
+use Rattle.w16_loading.specs.Families.{AnyCommand}
 use Rattle.w16_writes.specs.Promises.{Promises}
 use Rattle.w16_kernel.specs.Runs.{TakesMemory}
 use specs.declared.outcome.RunFault.TheVariants.{Write, Memory, TooLong}
@@ -17,7 +17,7 @@ FailsAt steps held old line Write holds new =
     (events : List Event) × (output : List ℕ) × Run steps old.world events new.world × Prints old.registers (line ∷ []) events output new.registers × AppendsFront held holds output × Promises old.world events
 -- its command wants memory, and nothing was done
 FailsAt steps held old line Memory holds new =
-    (target : Option ℕ) × (command : Command) × Reads old.registers line (Said.Says target command) × TakesMemory old.world command × IsSame old.world new.world × (new.registers ≡ old.registers) × Keeps held holds
+    (target : Option ℕ) × (command : AnyCommand) × Reads old.registers line (Said.Says target command) × TakesMemory old.world command × IsSame old.world new.world × (new.registers ≡ old.registers) × Keeps held holds
 -- no line meets another
 FailsAt steps held old line fault holds new = ⊥
 

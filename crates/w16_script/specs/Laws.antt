@@ -1,7 +1,7 @@
 -- Laws of the language.
 use Rattle.std.specs.Prelude.{◌≡◌, ℕ, Bool, true, ◌||◌, ◌&&◌, ◌==◌, nat_le, List, Option}
 use Rattle.std.specs.List.{list_all}
-use Rattle.w16_loading.specs.Families.{Command}
+use Rattle.w16_loading.specs.Families.{AnyCommand}
 use Rattle.w16_script.specs.Grammar.{Said, Reads}
 
 -- what a line says is one thing, whatever the registers have
@@ -14,4 +14,4 @@ is_plain byte = (byte == 9) || (nat_le 32 byte && nat_le byte 126)
 
 -- no other byte stands in a line that says a command
 abbrev pub EachIsPlain : Type 0
-EachIsPlain = (registers line : List ℕ) (target : Option ℕ) (command : Command) → Reads registers line (Said.Says target command) → list_all is_plain line ≡ true
+EachIsPlain = (registers line : List ℕ) (target : Option ℕ) (command : AnyCommand) → Reads registers line (Said.Says target command) → list_all is_plain line ≡ true

@@ -1,13 +1,15 @@
 -- What the code says of a line.
 use Rattle.std.specs.Prelude.{◌<◌, IfSome}
-use Rattle.w16_loading.specs.{Families.Command.OfFar, Families.Command}
+use Rattle.w16_loading.specs.Families.{AnyCommand}
+use Rattle.w16_model.specs.Commands.Family.{OfFar}
 use Rattle.w16_kernel.specs.Runs.{command_of, IsCall}
 use Rattle.w16_script.specs.{declared.line.Line.Line, Grammar.Said}
 use Rattle.w16_script.specs.declared.line.Line.TheVariants as line
+use Rattle.w16_loading.specs.Families.AnyCommand.{any}
 
 -- a far access
-abbrev pub IsFarAccess : Command → Type 0
-IsFarAccess (OfFar access) = Unit {0}
+abbrev pub IsFarAccess : AnyCommand → Type 0
+IsFarAccess (any OfFar access) = Unit {0}
 IsFarAccess command = ⊥
 
 -- what a line says, seen as the machine sees it

@@ -3,9 +3,10 @@ ghost use Rattle.std.specs.Prelude.{◌≡◌, ℕ, ◌≤◌, IfSome, IfNone, L
 ghost use Rattle.w16_kernel.specs.Runs.{label_of};
 ghost use Rattle.w16_script.specs.Words.{words_of};
 ghost use Rattle.w16_script.specs.Numbers.{IsNumber};
-ghost use Rattle.w16_script.specs.declared.arguments.Parameter as asked;
-ghost use Rattle.w16_script.specs.declared.arguments.Parameter.TheVariants as p;
-ghost use Rattle.w16_script.specs.Grammar.{Argument, IsArgument, AreArguments};
+ghost use Rattle.w16_machine.specs.declared.name.Parameter as asked;
+ghost use Rattle.w16_machine.specs.declared.name.Parameter.TheVariants as p;
+ghost use Rattle.w16_machine.specs.Rows.{Argument};
+ghost use Rattle.w16_script.specs.Grammar.{IsArgument, AreArguments};
 
 use crate::bytes::{MOST_BYTES, bytes};
 use crate::number::number;
@@ -13,20 +14,6 @@ use crate::registers::Registers;
 use crate::text::{label, text};
 use crate::words::{has_no_words, split_word};
 use w16_kernel::Label;
-
-/// What a command asks of a word. The grammar speaks of these; the code asks by the types below.
-#[derive(Clone, Copy)]
-pub enum Parameter {
-    Word,
-    Dword,
-    /// A number up to this one.
-    Count(u32),
-    Byte,
-    Bytes,
-    Text,
-    /// A text, or after a `#` a number.
-    Label,
-}
 
 /// What a word stands for, by its parameter: a number of its type, or a text or a label, which lie in the line.
 pub trait Value<'a>: Copy {

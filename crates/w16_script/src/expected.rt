@@ -4,9 +4,10 @@ ghost use Rattle.w16_script.specs.Words.{words_of};
 ghost use Rattle.w16_script.specs.Grammar.{parameters_of};
 ghost use Rattle.w16_script.specs.Expected.{IsExpected};
 
-use crate::name::{Name, find};
+use crate::name::find;
 use crate::registers::register;
 use crate::words::split_word;
+use w16_machine::name::Name;
 
 /// What was expected in a line that is answered `error syntax`.
 #[derive(Debug, Clone, Copy, PartialEq, Eq)]

@@ -1,21 +1,23 @@
 //! Lines of a script.
 ghost use Rattle.std.specs.Prelude.{◌≡◌, ◌≤◌, ◌<◌, [], ◌∷◌, ℕ, List, length, IfSome, IfNone, Option, Some};
 ghost use Rattle.w16_script.specs.Words.{words_of};
-ghost use Rattle.w16_loading.specs.Families.{Command};
+ghost use Rattle.w16_loading.specs.Families.{AnyCommand};
 ghost use Rattle.w16_kernel.specs.Runs.{command_of, IsCall};
-ghost use Rattle.w16_script.specs.declared.arguments.Parameter.TheVariants as p;
-ghost use Rattle.w16_script.specs.Grammar.{Argument, Reads, GoesTo, Makes, text_of, parameters_of, command_with};
+ghost use Rattle.w16_machine.specs.declared.name.Parameter.TheVariants as p;
+ghost use Rattle.w16_machine.specs.Rows.{Argument};
+ghost use Rattle.w16_script.specs.Grammar.{Reads, GoesTo, Makes, text_of, parameters_of, command_with};
 ghost use Rattle.w16_script.specs.Lines.{said_of, IsFarAccess, IsRunnable};
 
 use crate::arguments::{Count, nothing, one, three, two, with_bytes};
 use crate::bytes::MOST_BYTES;
-use crate::name::{Name, find};
+use crate::name::find;
 use crate::registers::{Registers, register};
 use crate::words::split_word;
 use w16_kernel::{
     Call, GlobalAllocFlags, GlobalReAllocFlags, Label, LocalAllocFlags, LocalReAllocFlags,
     MOST_FILLED, MOST_READ,
 };
+use w16_machine::name::Name;
 
 /// The most bytes that a `Read` may ask for.
 const READ_AT_MOST: u32 = MOST_READ as u32;
@@ -126,7 +128,7 @@ fn far_access<'a>(
 ) -> Option<Call<'a>>
     ensures found { IfSome result (λ call. Makes registers.now name (words_of text.now) (command_of call)) }
     ensures call { IfSome result (λ call. IsCall call) }
-    ensures none { IsFarAccess (command_with name []) → IfNone result ((command : Command) → Makes registers.now name (words_of text.now) command → ⊥) }
+    ensures none { IsFarAccess (command_with name []) → IfNone result ((command : AnyCommand) → Makes registers.now name (words_of text.now) command → ⊥) }
 {
     match name {
         Name::Read => {
@@ -162,7 +164,7 @@ fn call<'a>(
 ) -> Option<Call<'a>>
     ensures found { IfSome result (λ call. Makes registers.now name (words_of text.now) (command_of call)) }
     ensures call { IfSome result (λ call. IsCall call) }
-    ensures none { IfNone result ((command : Command) → Makes registers.now name (words_of text.now) command → ⊥) }
+    ensures none { IfNone result ((command : AnyCommand) → Makes registers.now name (words_of text.now) command → ⊥) }
 {
     match name {
         Name::GlobalAlloc => {

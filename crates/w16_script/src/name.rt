@@ -2,54 +2,7 @@
 ghost use Rattle.std.specs.Prelude.{◌≡◌, ◌≤◌, length, IfSome, IfNone};
 ghost use Rattle.w16_script.specs.Grammar.{text_of};
 
-/// A command, without its arguments.
-#[derive(Clone, Copy)]
-pub enum Name {
-    GlobalAlloc,
-    GlobalFree,
-    GlobalLock,
-    GlobalUnlock,
-    GlobalSize,
-    GlobalFlags,
-    GlobalHandle,
-    GetSelectorBase,
-    GetSelectorLimit,
-    GlobalCompact,
-    GlobalReAlloc,
-    GlobalDiscard,
-    GlobalLRUNewest,
-    GlobalLRUOldest,
-    Moved,
-    Walk,
-    Read,
-    Write,
-    Fill,
-    Builtin,
-    LoadModule,
-    LoadLibrary,
-    FreeLibrary,
-    FreeModule,
-    GetModuleHandle,
-    GetModuleUsage,
-    GetProcAddress,
-    FindResource,
-    LoadResource,
-    SizeofResource,
-    LockResource,
-    FreeResource,
-    LocalInit,
-    LocalAlloc,
-    LocalReAlloc,
-    LocalDiscard,
-    LocalFree,
-    LocalLock,
-    LocalUnlock,
-    LocalSize,
-    LocalFlags,
-    LocalHandle,
-    LocalCompact,
-    DS,
-}
+use w16_machine::name::Name;
 
 /// A command, where the word is its name.
 fn named(word: &[u8], text: &'static [u8], name: Name) -> Option<Name>

@@ -2,7 +2,7 @@
 ghost use Rattle.std.specs.Prelude.{◌≡◌, ◌^◌, ◌<◌, ◌↔◌, ℕ, true, IsTrue, IfSome, IfNone};
 ghost use Rattle.std.specs.Char.{is_ascii_graphic};
 ghost use Rattle.std.specs.List.{list_all};
-ghost use Rattle.w16_loading.specs.File as files;
+ghost use Rattle.w16_model.specs.Commands as commands;
 ghost use Rattle.w16_kernel.specs.Runs.{label_of};
 ghost use Rattle.w16_script.specs.Numbers.{IsLiteral};
 ghost use Rattle.w16_script.specs.Grammar.{IsText, IsLabel};
@@ -55,7 +55,7 @@ fn number_behind(digits: &[u8]) -> Option<u16>
 /// The label that a word is: after a `#` a number, else a text.
 pub fn label(word: &[u8]) -> Option<Label<'_>>
     ensures found { IfSome result (λ label. IsLabel word.now (label_of label)) }
-    ensures none { IfNone result ((label : files.Label) → IsLabel word.now label → ⊥) }
+    ensures none { IfNone result ((label : commands.Label) → IsLabel word.now label → ⊥) }
 {
     match word.split_first() {
         Some((b'#', digits)) => match number_behind(digits) {

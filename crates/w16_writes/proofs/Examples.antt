@@ -7,6 +7,7 @@ use Rattle.w16_model.proofs.Common.{if◌then◌else◌, slice_get, Part, far_po
 use Rattle.w16_loading.specs.Replies.Reply.{Bytes, Done, Dword, Word}
 use Rattle.w16_writes.specs.LastWrite.{Access, Has, IsUndisturbed, Position, Reads, Writes, byte_at, byte_in, is_in_range, place_at, position_after}
 use Rattle.std.specs.FinMap as finmap
+use Rattle.w16_loading.specs.Families.AnyCommand.{any}
 
 -- the slot has an object of three bytes, and no local heap
 record HasObject (w : World) (slot : ℕ) : Type 0 where
@@ -19,13 +20,13 @@ second = record { slot = 32; entry = None; offset = 1 }
 
 -- steps that write, read and compact
 abbrev writing : ℕ → ℕ → List ℕ → World → Event
-writing selector offset bytes w = record { command = OfFar (Write (far_pointer selector offset) bytes); reply = Done; after = w }
+writing selector offset bytes w = record { command = (any _ (Write (far_pointer selector offset) bytes)); reply = Done; after = w }
 
 abbrev reading : ℕ → ℕ → List ℕ → World → Event
-reading selector offset bytes w = record { command = OfFar (Read (far_pointer selector offset) (C.length bytes)); reply = Bytes bytes; after = w }
+reading selector offset bytes w = record { command = (any _ (Read (far_pointer selector offset) (C.length bytes))); reply = Bytes bytes; after = w }
 
 abbrev compacting : World → Event
-compacting w = record { command = C.OfHandles (C.GlobalCompact 32); reply = Dword 32; after = w }
+compacting w = record { command = (any _ (C.GlobalCompact 32)); reply = Dword 32; after = w }
 
 -- what a selector reaches
 reaches : (w : World) (selector : ℕ) {slot : ℕ} → (selector == selector_of (selector / 8)) ≡ true → owner_of w.loading.handles.attributes (selector / 8) ≡ Some slot → part_of_selector w.loading.handles selector ≡ Some (record { slot = slot; number = selector / 8 - slot })
@@ -57,7 +58,7 @@ module _ (before after : World) (h : HasObject before 32) (g : HasObject after 3
 module _ (before after : World) (h : HasObject before 32) (g : HasObject after 40) where
   -- the handle of slot 32 is given, and that of slot 40 is answered
   abbrev resizing : Event
-  resizing = record { command = C.OfResizes (C.GlobalReAlloc 262 131104 0); reply = Word 326; after = after }
+  resizing = record { command = (any _ (C.GlobalReAlloc 262 131104 0)); reply = Word 326; after = after }
 
   abbrev slot_by : ℕ → Option C.Object → Option ℕ
   slot_by handle p = elim p [ Some o ↦ if handle == handle_of o.kind (handle / 8) then Some (handle / 8) else None | None ↦ None ]

@@ -59,7 +59,7 @@ module _ (old : Heap) (id q : ℕ) where
   ]
   altered new (inr (inr (flags, e))) = subst (λ r. IfOk r Agrees) e (modifies (C.moveable_or_discardable flags))
 
-  given_up : (command : C.LocalCommand) (new : Heap) → IsGivenUp old command id new → Agrees new
+  given_up : (command : C.Command C.OfLocals) (new : Heap) → IsGivenUp old command id new → Agrees new
   given_up command new (inl (may, e)) = subst (λ r. IfOk r Agrees) e frees
   given_up command new (inr e) = subst Agrees (sym (C.discard_absent old new id e)) (object_absent old id q)
 
@@ -83,7 +83,7 @@ module _ (old : Heap) (is : C.IsHeap old) (q : ℕ) (new : Heap) where
       elim (cases_eq q id) [ inl e ↦ object_resized _ _ old new id q e there k.object | inr d ↦ kept q k.others (apart d) ]
 
 -- So each call leaves each object of the current heap.
-pub local_agrees : (old new : World) → C.AreLocalHeaps old → (command : C.LocalCommand) (reply : Reply) → C.LocalStep old command reply new → (at after : C.LocalHeap) → C.current_heap old ≡ Some at → C.local_in new at.slot ≡ Some after → (q : ℕ) → HeapsAgree (heap_of at) (heap_of after) q
+pub local_agrees : (old new : World) → C.AreLocalHeaps old → (command : C.Command C.OfLocals) (reply : Reply) → C.LocalStep old command reply new → (at after : C.LocalHeap) → C.current_heap old ≡ Some at → C.local_in new at.slot ≡ Some after → (q : ℕ) → HeapsAgree (heap_of at) (heap_of after) q
 local_agrees old new is command reply step at after c e q =
     current_becomes old at c command reply new Agreed (agree_same refl) stepped roomed
     (grown_becomes old is at c command new Agreed (λ answer next end asks later did. made end later answer next did)) after e step

@@ -3,7 +3,7 @@ use Rattle.std.proofs.Common.{List, [], ◌∷◌, ◌++◌, refl}
 use Rattle.std.specs.List.{AllByRecursion as Each}
 use Rattle.w16_machine.proofs.{Common.Format, Common.Reply, Common.World, Common.IsWorld, Common.Each-from_All, Apart.apart_law, Bystanders.step_spares_law, Discards.step_fewest, Runs.each_append, Worlds.world_law}
 use Rattle.w16_machine.specs.Machine.{Event, Run, Step, Steps}
-use Rattle.w16_loading.specs.Families.{Command}
+use Rattle.w16_loading.specs.Families.{AnyCommand}
 use Rattle.w16_machine.specs.Law.{EachStep}
 use Rattle.w16_loading.specs.Law.{IsCommand}
 use Rattle.w16_writes.specs.{LastWrite.AllKeepWritten, LastWrite.KeepsWritten, Promises.Promises, Promises.RunPromisesLaw}
@@ -13,7 +13,7 @@ pub promised_none : (old : World) → Promises old []
 promised_none old = record { ranged = tt; worlds = tt; apart = tt; bytes = tt; addresses = tt; ds = tt; fewest = tt; written = tt; reads_back = reads_back_law old [] tt }
 
 -- a step of a world is a run that promises this
-pub promised_step : (honest : Type 0) (format : Format) (old new : World) (command : Command) (reply : Reply) → IsWorld old → IsCommand command → Step honest format old command reply new
+pub promised_step : (honest : Type 0) (format : Format) (old new : World) (command : AnyCommand) (reply : Reply) → IsWorld old → IsCommand command → Step honest format old command reply new
     → Promises old (record { command = command; reply = reply; after = new } ∷ [])
 promised_step honest format old new command reply is known step =
     let event : Event = record { command = command; reply = reply; after = new } in
@@ -53,11 +53,11 @@ module _ (steps : Steps) (old mid : World) (events more : List Event) (run : Run
       }
 
 pub run_promises_law : (honest : Type 0) → RunPromisesLaw honest
-run_promises_law honest format old new events is known run = each old events is (Each-from_All (λ (e : Event). IsCommand _) events known) run
+run_promises_law honest format old new events is known run = each old events is (Each-from_All (λ (event : Event). IsCommand event.command) events known) run
   where
     each : (now : World) (events : List Event) → IsWorld now → Each (λ (e : Event). IsCommand e.command) events → Run (Step honest format) now events new → Promises now events
     each now [] is known run = promised_none now
     each now (event ∷ events) is known run =
         promised_append (Step honest format) now _ (event ∷ []) events (run.0, refl)
-        (promised_step honest format now _ _ _ is known.0 run.0)
-        (each _ events (world_law honest format now _ _ _ is known.0 run.0) known.1 run.1)
+        (promised_step honest format now event.after event.command event.reply is known.0 run.0)
+        (each _ events (world_law honest format now event.after event.command event.reply is known.0 run.0) known.1 run.1)

@@ -1,6 +1,9 @@
 -- Steps of loading: what they leave of the bytes of global objects, and what far accesses put there and read.
 use Rattle.w16_loading.proofs.Common as C
-use Rattle.w16_loading.proofs.Common.{REACH, ◌≡◌, ℕ, ◌+◌, ◌*◌, ◌⊎◌, inl, inr, true, IsSomeAnd, List, length, Option, Some, None, is_some, refl, sym, ap, ◌∙◌, subst, arith, drop, ◌<◌, cases_eq, part, object_at, bytes_at, bytes_in, Handles, selector_in, offset_in, FarAnswer, FarCommand}
+use Rattle.w16_loading.proofs.Common.{REACH, ◌≡◌, ℕ, ◌+◌, ◌*◌, ◌⊎◌, inl, inr, true, IsSomeAnd, List, length, Option, Some, None, is_some, refl, sym, ap, ◌∙◌, subst, arith, drop, ◌<◌, cases_eq, part, object_at, bytes_at, bytes_in, Handles, selector_in, offset_in, FarAnswer}
+use Rattle.w16_model.specs.Commands.{Command}
+use Rattle.w16_loading.specs.Families.{AnyCommand}
+use Rattle.w16_model.specs.Commands.Family.{OfFar}
 use Rattle.w16_loading.proofs.Common.{Write, Fill, Answers, FetchesFrom, Fills, told, gives, IsLoadingWorld, LoadingWorld, Command, OfResizes, OfFar, Reply, Calls, call_of}
 use Rattle.w16_loading.proofs.{Cases.access_cases, Cases.lock_cases, CallsKept.answered, FetchWorlds.fetched_world, Fillings.fetch_outcome, Spared.fetch_spares}
 use Rattle.w16_model.proofs.Common.{slice_get, length-take, Done, FarEffect, IsWritten, Reaches, next_slot, Part, part_of_selector, Word}
@@ -13,6 +16,8 @@ use Rattle.w16_writes.specs.LastWrite.{Access, byte_in, read, slot_after_step, w
 use Rattle.w16_writes.proofs.Bytes.{some_such, none_or, which, only, Agree, agree_new, agree_same, get-part, get-written, get-unwritten}
 use Rattle.w16_writes.proofs.Calls.{HeapsAgree, call_agrees, goes_free, had_no_object, kept_agrees, no_object}
 use Rattle.w16_loading.specs.declared.FetchFault.TheVariants as faults
+use Rattle.w16_loading.proofs.Locks.{lock_contents}
+use Rattle.w16_loading.specs.Families.AnyCommand.{any}
 
 -- the byte at a place of a slot's object
 abbrev pub get : Handles → ℕ → ℕ → Option ℕ
@@ -37,7 +42,7 @@ pub record Keeps (old new : Handles) (to : ℕ → ℕ) (puts gets : Option Acce
   -- another slot had no object
   pub free : (slot : ℕ) → (to slot ≡ slot) ⊎ (object_at old.heap (to slot) ≡ None)
 
-abbrev pub KeepsSegments : Handles → Handles → Command → Reply → Type 0
+abbrev pub KeepsSegments : Handles → Handles → AnyCommand → Reply → Type 0
 KeepsSegments old new command reply = Keeps old new (λ q. slot_after_step old command reply new q) (written command reply) (read command reply)
 
 -- a step that is no answered access
@@ -62,13 +67,13 @@ abbrev handles_of : LoadingWorld → Handles
 handles_of w = w.handles
 
 -- An access is made in the world, or in what a fetch leaves of it; or that is all.
-record Made (old : LoadingWorld) (command : FarCommand) (reply : Reply) (new : LoadingWorld) : Type 0 where
+record Made (old : LoadingWorld) (command : Command OfFar) (reply : Reply) (new : LoadingWorld) : Type 0 where
   pub mid : Handles
   pub agree : HandlesAgree old.handles mid
   pub runs : mid.attributes ≡ old.handles.attributes
   pub made : ((answer : FarAnswer) × (reply ≡ C.reply_of_far answer) × FarEffect mid command answer new.handles) ⊎ ((fault : FetchFault) × (reply ≡ C.Failed fault) × (new.handles ≡ mid))
 
-module _ (answers : Answers) (old : LoadingWorld) (is : IsLoadingWorld old) {command : FarCommand} {reply : Reply} {new : LoadingWorld} where
+module _ (answers : Answers) (old : LoadingWorld) (is : IsLoadingWorld old) {command : Command OfFar} {reply : Reply} {new : LoadingWorld} where
   accessed : (access : LoadingWorld → FarAnswer × LoadingWorld) (selector : ℕ) → ((w : LoadingWorld) → new.handles ≡ (access w).1.handles → HandlesFarStep w.handles command (access w).0 new.handles)
       → C.Accesses (FetchesFrom Fills answers) access old selector reply new → Made old command reply new
   accessed access selector does step = elim (access_cases (FetchesFrom Fills answers) old reply new access selector step) [
@@ -85,7 +90,7 @@ module _ (answers : Answers) (old : LoadingWorld) (is : IsLoadingWorld old) {com
       in_world : (w : LoadingWorld) → IsLoadingWorld w → HandlesAgree old.handles w.handles → w.handles.attributes ≡ old.handles.attributes → gives (access w) reply new → Made old command reply new
       in_world w are agree runs g = record { mid = w.handles; agree = agree; runs = runs; made = inl ((access w).0, g.0, far_effect_law w.handles new.handles command (access w).0 are.handles (does w (ap handles_of g.1))) }
 
-far_made : (answers : Answers) (old : LoadingWorld) → IsLoadingWorld old → (command : FarCommand) (reply : Reply) (new : LoadingWorld) → C.FarStep (FetchesFrom Fills answers) old command reply new → Made old command reply new
+far_made : (answers : Answers) (old : LoadingWorld) → IsLoadingWorld old → (command : Command OfFar) (reply : Reply) (new : LoadingWorld) → C.FarStep (FetchesFrom Fills answers) old command reply new → Made old command reply new
 far_made answers old is (Read pointer count) reply new step = accessed answers old is _ _ (λ w e. (refl, e)) step
 far_made answers old is (Write pointer bytes) reply new step = accessed answers old is _ _ (λ w e. (refl, e)) step
 far_made answers old is (Fill pointer count byte) reply new step = accessed answers old is _ _ (λ w e. (refl, e)) step
@@ -156,19 +161,19 @@ module _ (old : Handles) {mid new : Handles} (pointer count : ℕ) (bytes : List
       shorter : (before : List ℕ) → bytes ≡ part before (REACH * r.number + offset_in pointer) count → h.index < count
       shorter before e = omega (arith, slice_get_within bytes h.index byte h.has, ap length e ∙ length-take count (drop (REACH * r.number + offset_in pointer) before))
 
-far_keeps_by : {old : LoadingWorld} {command : FarCommand} {reply : Reply} {new : LoadingWorld} → Made old command reply new → KeepsSegments old.handles new.handles (OfFar command) reply
+far_keeps_by : {old : LoadingWorld} {command : Command OfFar} {reply : Reply} {new : LoadingWorld} → Made old command reply new → KeepsSegments old.handles new.handles (any OfFar command) reply
 far_keeps_by {old} {command} {reply} {new} m = elim m.made [
   | inl (answer, e, effect) ↦ subst (Does command) (sym e) (answered command answer effect)
   | inr (fault, e, same) ↦ subst (Does command) (sym e) (failed command fault same)
 ]
   where
-    Does : FarCommand → Reply → Type 0
-    Does command reply = KeepsSegments old.handles new.handles (OfFar command) reply
+    Does : Command OfFar → Reply → Type 0
+    Does command reply = KeepsSegments old.handles new.handles (any OfFar command) reply
 
     unchanged : new.handles ≡ m.mid → HandlesAgree old.handles new.handles
     unchanged e q = subst (λ (h : Handles). HeapsAgree old.handles.heap h.heap q) (sym e) (m.agree q)
 
-    failed : (command : FarCommand) (fault : FetchFault) → new.handles ≡ m.mid → Does command (C.Failed fault)
+    failed : (command : Command OfFar) (fault : FetchFault) → new.handles ≡ m.mid → Does command (C.Failed fault)
     failed (Read pointer count) fault e = calm (unchanged e)
     failed (Write pointer bytes) fault e = calm (unchanged e)
     failed (Fill pointer count byte) fault e = calm (unchanged e)
@@ -177,7 +182,7 @@ far_keeps_by {old} {command} {reply} {new} m = elim m.made [
         → Keeps old.handles new.handles (λ q. q) (Some (record { pointer = pointer; bytes = slice })) None
     puts pointer slice r = record { put = write_puts pointer slice r; got = λ slot i byte p h. absurd h; kept = write_keeps pointer slice r old.handles m.agree; free = λ slot. inl refl }
 
-    answered : (command : FarCommand) (answer : FarAnswer) → FarEffect m.mid command answer new.handles → Does command (C.reply_of_far answer)
+    answered : (command : Command OfFar) (answer : FarAnswer) → FarEffect m.mid command answer new.handles → Does command (C.reply_of_far answer)
     answered (Read pointer count) (Fault fault) e = calm (unchanged e)
     answered (Write pointer bytes) (Fault fault) e = calm (unchanged e)
     answered (Fill pointer count byte) (Fault fault) e = calm (unchanged e)
@@ -196,7 +201,7 @@ far_keeps_by {old} {command} {reply} {new} m = elim m.made [
 -- Other steps.
 
 -- A resize is the call that it stands for, with the answer that is printed, so it keeps segments.
-resizes_keep : (old new : Handles) → C.AreHandles old → (command : C.ResizeCommand) (reply : Reply) → C.ResizeReplies old command reply new → KeepsSegments old new (OfResizes command) reply
+resizes_keep : (old new : Handles) → C.AreHandles old → (command : C.Command C.OfResizes) (reply : Reply) → C.ResizeReplies old command reply new → KeepsSegments old new (any OfResizes command) reply
 resizes_keep old new is command reply step =
     let (answer, says, step) = some_such (C.answer_in reply) step in
     let to = λ (q : ℕ). ap (λ (p : Option Answer). elim p as (λ _. ℕ) [ None ↦ q | Some answer ↦ next_slot old (call_of command) answer new q ]) (sym says) in
@@ -204,7 +209,7 @@ resizes_keep old new is command reply step =
     quiet (λ q. subst (λ s. Agree (bytes_at old.heap q) (bytes_at new.heap s)) (to q) (call_agrees old new is _ answer call q))
     (λ q. subst (λ s. (s ≡ q) ⊎ (object_at old.heap s ≡ None)) (to q) (goes_free old new is _ answer call q))
   where
-    by : (command : C.ResizeCommand) (answer : Answer) → C.ResizeStep old command answer new → C.CallStep old (call_of command) answer new
+    by : (command : C.Command C.OfResizes) (answer : Answer) → C.ResizeStep old command answer new → C.CallStep old (call_of command) answer new
     by (C.GlobalReAlloc handle size flags) (Word answer) step = step
     by (C.GlobalDiscard handle) (Word answer) step = step
     by command answer step = absurd step
@@ -214,7 +219,7 @@ module _ (honest : Type 0) (format : Format) (old new : LoadingWorld) (is : IsLo
   Agrees w = HeapsAgree old.handles.heap w.handles.heap q
 
   -- a call on handles
-  called : (command : C.HandleCommand) (answer : Answer) (next : Handles) → C.CallStep old.handles (Calls command) answer next → new.handles ≡ next → Agrees new
+  called : (command : C.Command C.OfHandles) (answer : Answer) (next : Handles) → C.CallStep old.handles (Calls command) answer next → new.handles ≡ next → Agrees new
   called command answer next step e = subst (λ (h : Handles). HeapsAgree old.handles.heap h.heap q) (sym e) (call_agrees old.handles next is.handles (Calls command) answer step q)
 
   -- a lock of a resource, after a fetch where it has no bytes
@@ -226,7 +231,7 @@ module _ (honest : Type 0) (format : Format) (old new : LoadingWorld) (is : IsLo
   ]
     where
       locks : (w : LoadingWorld) → Agrees w → Agrees (C.locked w handle).1
-      locks w a = let (answer, next) = C.global_lock w.handles handle in subst (Agree (bytes_at old.handles.heap q)) (sym ((C.contents w.handles next (Calls (C.GlobalLock handle)) answer (C.call_outcome w.handles next (C.GlobalLock handle) answer (refl, refl)) refl).bytes q)) a
+      locks w a = subst (Agree (bytes_at old.handles.heap q)) (sym ((lock_contents w.handles handle).bytes q)) a
 
       becomes : {end : Reply × LoadingWorld} → ◌≡◌ {A = Reply × LoadingWorld} (reply, new) end → Agrees end.1 → Agrees new
       becomes e a = subst (λ (p : Reply × LoadingWorld). Agrees p.1) (sym e) a
@@ -238,7 +243,7 @@ module _ (honest : Type 0) (format : Format) (old new : LoadingWorld) (is : IsLo
       after (Some faults.Damaged) next a = a
 
   -- a step that is about no object
-  stands_by : (command : Command) → StepOver honest format old command reply new → (C.IsStepAbout old.handles command q → ⊥) → Agrees new
+  stands_by : (command : AnyCommand) → StepOver honest format old command reply new → (C.IsStepAbout old.handles command q → ⊥) → Agrees new
   stands_by command step out = elim (which (object_at old.handles.heap q)) [
     | inl e ↦ had_no_object e
     | inr (o, e) ↦ elim (bystanders_law honest format old new command reply q is step (ap is_some e) out) [ inl kept ↦ kept_agrees old.handles.heap new.handles.heap q kept | inr gone ↦ no_object gone.0 ]
@@ -248,14 +253,14 @@ module _ (honest : Type 0) (format : Format) (old new : LoadingWorld) (is : IsLo
   abbrev answers : Answers
   answers = told honest format old.files old.failures new.failures
 
-  idle : {command : Command} {reply : Reply} → StepOver honest format old command reply new → ((q : ℕ) → C.IsStepAbout old.handles command q → ⊥) → HandlesAgree old.handles new.handles
+  idle : {command : AnyCommand} {reply : Reply} → StepOver honest format old command reply new → ((q : ℕ) → C.IsStepAbout old.handles command q → ⊥) → HandlesAgree old.handles new.handles
   idle {command} {reply} step out q = stands_by honest format old new is reply q command step (out q)
 
-  pub loading_keeps : (command : Command) (reply : Reply) → StepOver honest format old command reply new → KeepsSegments old.handles new.handles command reply
-  loading_keeps (C.OfHandles command) reply step = calm (λ q. let f = step.step in let c = answered old is command reply f.0 f.1 in called honest format old new is reply q command c.0 f.0 c.1 (ap handles_of f.2))
-  loading_keeps (OfResizes command) reply step = let f = step.step in subst (λ (h : Handles). KeepsSegments old.handles h (OfResizes command) reply) (sym (ap handles_of f.2)) (resizes_keep old.handles f.0 is.handles command reply f.1)
-  loading_keeps (OfFar command) reply step = far_keeps_by (far_made answers old is command reply (record new { failures = old.failures }) step.step)
-  loading_keeps (C.OfModules command) reply step = calm (idle step (λ q about. about))
-  loading_keeps (C.OfResources (C.LockResource handle)) reply step = calm (λ q. lock_agrees honest format old (record new { failures = old.failures }) is reply q answers handle step.step)
-  loading_keeps (C.OfResources other) reply step = calm (idle step (λ q about. about))
-  loading_keeps (C.OfLocals command) reply step = absurd step.step
+  pub loading_keeps : (command : AnyCommand) (reply : Reply) → StepOver honest format old command reply new → KeepsSegments old.handles new.handles command reply
+  loading_keeps (any C.OfHandles command) reply step = calm (λ q. let f = step.step in let c = answered old is command reply f.0 f.1 in called honest format old new is reply q command c.0 f.0 c.1 (ap handles_of f.2))
+  loading_keeps (any OfResizes command) reply step = let f = step.step in subst (λ (h : Handles). KeepsSegments old.handles h (any OfResizes command) reply) (sym (ap handles_of f.2)) (resizes_keep old.handles f.0 is.handles command reply f.1)
+  loading_keeps (any OfFar command) reply step = far_keeps_by (far_made answers old is command reply (record new { failures = old.failures }) step.step)
+  loading_keeps (any C.OfModules command) reply step = calm (idle step (λ q about. about))
+  loading_keeps (any _ (C.LockResource handle)) reply step = calm (λ q. lock_agrees honest format old (record new { failures = old.failures }) is reply q answers handle step.step)
+  loading_keeps (any C.OfResources other) reply step = calm (idle step (λ q about. about))
+  loading_keeps (any C.OfLocals command) reply step = absurd step.step

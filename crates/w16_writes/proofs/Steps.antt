@@ -12,6 +12,7 @@ use proofs.Bytes.{which, some_such, only, get-below, get-outside, inside}
 use proofs.Locals.{local_agrees, segment_byte}
 use proofs.Segments.{get, HasIn, KeepsSegments, loading_keeps}
 use Rattle.std.specs.FinMap as finmap
+use Rattle.w16_loading.specs.Families.AnyCommand.{any}
 
 abbrev position : ℕ → Option ℕ → ℕ → Position
 position slot entry offset = record { slot = slot; entry = entry; offset = offset }
@@ -83,7 +84,7 @@ placed w is a has p byte h =
 
 -- A step of loading: where a position is there before and after, it lies at one place of its object, since the table of a local heap that stays is
 -- the same, and its segment has its slot still.
-module _ (honest : Type 0) (format : C.Format) (old new : World) (command : C.Command) (reply : Reply) (is : IsWorld old) (now : IsWorld new) (step : C.LoadingStep honest format old command reply new) where
+module _ (honest : Type 0) (format : C.Format) (old new : World) (command : C.AnyCommand) (reply : Reply) (is : IsWorld old) (now : IsWorld new) (step : C.LoadingStep honest format old command reply new) where
   abbrev event : Event
   event = record { command = command; reply = reply; after = new }
 
@@ -133,7 +134,7 @@ side : (lo hi offset : ℕ) → (C.nat_le lo offset && C.nat_lt offset hi) ≡ f
 side lo hi offset e = grind arith
 
 -- A local call.
-module _ (old new : World) (command : C.LocalCommand) (reply : Reply) (is : IsWorld old) (now : IsWorld new) (step : C.LocalStep old command reply new) where
+module _ (old new : World) (command : C.Command C.OfLocals) (reply : Reply) (is : IsWorld old) (now : IsWorld new) (step : C.LocalStep old command reply new) where
   -- a byte of a segment that is in no local heap's range is the same where it is there before and after
   module _ (slot offset : ℕ) (out : is_in_range (finmap.get old.heaps slot) offset ≡ false) (was : is_some (byte_in (segment_bytes old slot) offset) ≡ true) (there : is_some (byte_in (segment_bytes new slot) offset) ≡ true) where
     abbrev IsStill : Type 0
@@ -196,9 +197,9 @@ module _ (old new : World) (command : C.LocalCommand) (reply : Reply) (is : IsWo
       ap (byte_of entry offset) f ∙ same ∙ sym (ap (byte_of entry offset) e)
 
 pub step_law : (honest : Type 0) → StepLaw honest
-step_law honest format old new (C.OfLocals command) reply is known step = record {
+step_law honest format old new (any C.OfLocals command) reply is known step = record {
   written = λ p byte h. absurd h;
   read = λ p byte h. absurd h;
-  kept = λ p was there out. local_kept old new command reply is (world_law honest format old new (C.OfLocals command) reply is known step) step p.slot p.entry _ was there;
+  kept = λ p was there out. local_kept old new command reply is (world_law honest format old new (any C.OfLocals command) reply is known step) step p.slot p.entry _ was there;
 }
 step_law honest format old new command reply is known step = loading_kept honest format old new command reply is (world_law honest format old new command reply is known step) step

@@ -1,13 +1,15 @@
 -- What is written through far pointers reads back: where the byte of a position is, which accesses reach it, and what steps and runs leave of it.
 use Rattle.std.specs.Prelude.{◌≡◌, ℕ, ◌+◌, ◌*◌, Bool, true, false, ◌&&◌, if◌then◌else◌, nat_le, nat_lt, List, [], ◌∷◌, ◌++◌, All, Option, Some, None, option_map, is_some, IsSomeAnd, slice_get}
-use Rattle.w16_model.specs.Far.FarCommand.{Read, Write, Fill}
+use Rattle.w16_loading.specs.Families.{AnyCommand}
+use Rattle.w16_model.specs.Commands.Family.{OfResizes, OfFar}
+use Rattle.w16_model.specs.Commands.Command.{Read, Write, Fill}
 use Rattle.w16_model.specs.{Bytes.repeated, declared.TheConstants.REACH, CallLaws.next_slot, Handles.Handles, Handles.part_of_selector, Handles.selector_in, Handles.offset_in, Heap.bytes_at, Table.Table}
-use Rattle.w16_loading.specs.{Bystanders.call_of, Families.Command.OfFar, Families.Command.OfResizes, File.Format, Replies.Reply, Replies.answer_in, Replies.Reply.Bytes, Replies.Reply.Done}
+use Rattle.w16_loading.specs.{Bystanders.call_of, File.Format, Replies.Reply, Replies.answer_in, Replies.Reply.Bytes, Replies.Reply.Done}
 use Rattle.w16_machine.specs.Machine.{Event, Run, Step}
-use Rattle.w16_loading.specs.Families.{Command}
 use Rattle.w16_machine.specs.{Law.IsWorld, Local.segment_bytes, Local.heap_of, Local.local_in, World.World, Law.EachStep}
 use Rattle.w16_loading.specs.Law.{IsCommand}
 use Rattle.std.specs.FinMap as finmap
+use Rattle.w16_loading.specs.Families.AnyCommand.{any}
 
 -- A position is an offset in an object: in that of a slot, or in that of an entry of the local heap in the slot's object.
 pub record Position : Type 0 where
@@ -46,8 +48,8 @@ place_at w p = elim p.entry [
 -- Where a position goes.
 
 -- the slot that an object has after a step: that of the handle answered, where its handle was given to a reallocation, else its own
-abbrev pub slot_after_step : Handles → Command → Reply → Handles → ℕ → ℕ
-slot_after_step old (OfResizes command) reply new slot = elim (answer_in reply) [ None ↦ slot | Some answer ↦ next_slot old (call_of command) answer new slot ]
+abbrev pub slot_after_step : Handles → AnyCommand → Reply → Handles → ℕ → ℕ
+slot_after_step old (any OfResizes command) reply new slot = elim (answer_in reply) [ None ↦ slot | Some answer ↦ next_slot old (call_of command) answer new slot ]
 slot_after_step old command reply new slot = slot
 
 -- a position after a step: the same offset in the same object
@@ -67,14 +69,14 @@ pub record Access : Type 0 where
   pub bytes : List ℕ
 
 -- the bytes that an answered write or fill puts
-abbrev pub written : Command → Reply → Option Access
-written (OfFar (Write pointer bytes)) Done = Some (record { pointer = pointer; bytes = bytes })
-written (OfFar (Fill pointer count byte)) Done = Some (record { pointer = pointer; bytes = repeated count byte })
+abbrev pub written : AnyCommand → Reply → Option Access
+written (any OfFar (Write pointer bytes)) Done = Some (record { pointer = pointer; bytes = bytes })
+written (any OfFar (Fill pointer count byte)) Done = Some (record { pointer = pointer; bytes = repeated count byte })
 written command reply = None
 
 -- and those that an answered read gives
-abbrev pub read : Command → Reply → Option Access
-read (OfFar (Read pointer count)) (Bytes bytes) = Some (record { pointer = pointer; bytes = bytes })
+abbrev pub read : AnyCommand → Reply → Option Access
+read (any OfFar (Read pointer count)) (Bytes bytes) = Some (record { pointer = pointer; bytes = bytes })
 read command reply = None
 
 -- an access, by any of its object's selectors, has this byte at a position, which is there in this world
@@ -133,7 +135,7 @@ ReadsBack events = (before between after : List Event) (writing reading : Event)
 
 -- The laws. Each step keeps what is written, whatever the store answers,
 abbrev pub StepLaw : (honest : Type 0) → Type 0
-StepLaw honest = (format : Format) (old new : World) (command : Command) (reply : Reply) → IsWorld old → IsCommand command → Step honest format old command reply new
+StepLaw honest = (format : Format) (old new : World) (command : AnyCommand) (reply : Reply) → IsWorld old → IsCommand command → Step honest format old command reply new
     → KeepsWritten old (record { command = command; reply = reply; after = new })
 
 -- and so does each step of a run,

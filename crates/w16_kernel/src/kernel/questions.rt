@@ -1,5 +1,5 @@
 //! Questions on the global heap. Each is the call of its name by [`Kernel::call`], and quicker.
-ghost use Rattle.w16_model.specs.Calls.HandleCommand.{GetSelectorBase, GetSelectorLimit, GlobalFlags, GlobalHandle, GlobalSize, Moved};
+ghost use Rattle.w16_model.specs.Commands.Command.{GlobalSize, GlobalFlags, GlobalHandle, GetSelectorBase, GetSelectorLimit, Moved};
 ghost use Rattle.w16_loading.specs.Replies.Reply.{Word, Dword};
 ghost use Rattle.w16_kernel.specs.Questions.{IsAnswered};
 

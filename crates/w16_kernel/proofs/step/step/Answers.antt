@@ -1,5 +1,5 @@
 use Rattle.w16_kernel.proofs.{Common.◌≤◌, Common.length, Common.length-take-le, Common.subst, Common.world_of, Modules.seen, Stepping.local_step, Stepping.wanted_at}
-use Rattle.w16_kernel.specs.Runs.{HasRoom}
+use Rattle.w16_kernel.specs.Runs.{HasRoom, command_of}
 use Rattle.w16_kernel.proofs.step.step.Goals as goal
 
 pub returns-in-Read-clause-step : goal.returns-in-Read-clause-step
@@ -16,7 +16,7 @@ returns-in-Fill-clause-step g c = rw c.in-Fill.is c.write-in-Fill.ensures.step
 pub returns-in-LocalInit-clause-step : goal.returns-in-LocalInit-clause-step
 returns-in-LocalInit-clause-step g c =
     let w = world_of (seen c.loading.view_is) c.parts.inside.locals c.parts.inside.ds in
-    rw (← c.parts.view_is, ← c.loading.view_is) (local_step _ _ _ _ _ c.local_reply.ensures.step w)
+    rw (← c.parts.view_is, ← c.loading.view_is) (local_step g.S.Store.is_honest _ _ (command_of c.args.call.now) _ c.local_reply.ensures.step w)
 
 pub returns-in-LocalInit-clause-wanted : goal.returns-in-LocalInit-clause-wanted
 returns-in-LocalInit-clause-wanted g c =

@@ -1,5 +1,5 @@
 -- The length is that of the table, or there is none.
-use Rattle.w16_resource.proofs.Common.{Option, Resource, ap, entry_of, in_world, option_map, sym, unwrap_or}
+use Rattle.w16_resource.proofs.Common.{ap, entry_of, in_world, option_map, sym, unwrap_or}
 use Rattle.w16_resource.proofs.Fetched.{source_resource}
 use Rattle.w16_resource.proofs.finding.size_of_resource.Goals as goal
 

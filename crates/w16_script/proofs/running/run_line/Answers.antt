@@ -1,4 +1,4 @@
-use Rattle.w16_script.proofs.Common.{[], ◌∷◌, refl, Appends-nil, Event, command_of, reply_of, Said, error_text, promised_none}
+use Rattle.w16_script.proofs.Common.{[], ◌∷◌, refl, Appends-nil, Keeps-refl, Event, command_of, reply_of, Said, error_text, promised_none}
 use Rattle.w16_script.proofs.RunLemmas.{Prints-one}
 use Rattle.w16_script.proofs.running.run_line.Goals as goal
 
@@ -52,3 +52,7 @@ returns-in-Err-print_shown-clause-err g c =
       front,
       c.in-Ok-call.ensures.promises,
     )
+
+pub returns-in-Err-call-clause-err : goal.returns-in-Err-call-clause-err
+returns-in-Err-call-clause-err g c =
+    (c.in-Command.target, command_of c.in-Command.call, c.in-Command.ensures.reads, c.in-Err-call.ensures.wanted, c.in-Err-call.ensures.refused, refl, Keeps-refl (g.W.Write.contents c.args.writer.now))

@@ -1,5 +1,5 @@
 use Rattle.w16_kernel.proofs.{Common.ap, Common.refl, Stepping.answered}
-use Rattle.w16_model.specs.Calls.HandleCommand.{GlobalSize}
+use Rattle.w16_model.specs.Commands.Command.{GlobalSize}
 use Rattle.w16_kernel.specs.declared.call.Reply.TheVariants.{Dword}
 use Rattle.w16_model.specs.Calls as calls
 use Rattle.w16_kernel.proofs.kernel.Kernel.global_size.Goals as goal

@@ -1,5 +1,5 @@
 use Rattle.w16_kernel.proofs.{Common.ap, Common.refl, Stepping.answered}
-use Rattle.w16_model.specs.Calls.HandleCommand.{GetSelectorBase}
+use Rattle.w16_model.specs.Commands.Command.{GetSelectorBase}
 use Rattle.w16_kernel.specs.declared.call.Reply.TheVariants.{Dword}
 use Rattle.w16_model.specs.Calls as calls
 use Rattle.w16_kernel.proofs.kernel.Kernel.selector_base.Goals as goal

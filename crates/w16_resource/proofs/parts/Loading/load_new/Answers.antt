@@ -1,6 +1,6 @@
 -- A new object is fetched, or goes again.
 use Rattle.w16_resource.proofs.Common.{ap, is_long, ◌∙◌}
-use Rattle.w16_resource.proofs.{Made.loads_first, Made.loads_none, Steps.no_slot, Steps.seen}
+use Rattle.w16_resource.proofs.{Made.loads_first, Made.loads_none, Steps.no_slot}
 use Rattle.w16_resource.proofs.parts.Loading.load_new.Goals as goal
 
 pub returns-in_default-clause-step : goal.returns-in_default-clause-step
