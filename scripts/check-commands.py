@@ -17,7 +17,7 @@ from pathlib import Path
 
 TOP = Path(__file__).resolve().parent.parent
 DATA = TOP / "crates/w16rows/data"
-GRAMMAR = TOP / "crates/w16_script/specs/Grammar.antt"
+TABLE = TOP / "crates/w16_machine/specs/Rows.antt"
 COMMANDS = TOP / "docs/COMMANDS.md"
 README = TOP / "README.md"
 
@@ -119,20 +119,19 @@ def check_blocks(text, files):
 
 def check_names(text):
     """Checks that each command has one row, whose first cell begins with its name, and answers how many there are."""
-    grammar = GRAMMAR.read_text()
-    listed = re.search(r"^all_names\s*=(.*?)(?=^\S)", grammar + "\n.", re.M | re.S)
-    known = re.findall(r"[A-Z]\w*", re.sub(r"names?\.Name\.", "", listed[1])) if listed else []
+    table = re.findall(r'^row_of .* = row \w+ \(codes "(\w+)"\) (.*)$', TABLE.read_text(), re.M)
+    known = [name for name, _ in table]
     told = re.findall(r"^\| `([A-Z]\w*)[^`]*` \|", text.split("\n## Flags\n")[0], re.M)
     for name in known:
         if told.count(name) != 1:
             fault(f"COMMANDS.md: {name} has {told.count(name)} rows of a table")
     rows = dict(re.findall(r"^\| `([A-Z]\w*)((?: [A-Z]+)*)` \|", text, re.M))
-    for name, parameters in re.findall(r"^row_of name\.(\w+) = .*?\)(.*)$", grammar, re.M):
-        if name in rows and len(rows[name].split()) != len(re.findall(r"\bp\.[A-Z]", parameters)):
+    for name, columns in table:
+        if name in rows and len(rows[name].split()) != columns.count("∷"):
             fault(f"COMMANDS.md: {name} takes another number of arguments")
     for name in told:
         if name not in known:
-            fault(f"COMMANDS.md: {name} is no command of Grammar.antt")
+            fault(f"COMMANDS.md: {name} is no command of Rows.antt")
     return len(known)
 
 

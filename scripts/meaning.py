@@ -3,7 +3,7 @@
 
   scripts/meaning.py
 
-The definitions are those that `Command`, and `Step` and `Run` of `w16_machine`, lead to, down to std's. It prints how many lines of them
+The definitions are those that `AnyCommand` of `w16_loading`, and `Step` and `Run` of `w16_machine`, lead to, down to std's. It prints how many lines of them
 each page of specs/ has, without comments and imports, and the total: these lines have to be believed. It finds fault where a page of
 w16_model, w16_loading or w16_machine has other definitions beside them, where one imports a page that has none of them, and where
 scripts/meaning.txt hasn't these pages, each with the number of its definitions.
@@ -14,8 +14,10 @@ import sys
 
 TOP = pathlib.Path(__file__).resolve().parent.parent
 LIST = TOP / "scripts/meaning.txt"
-ROOTS = [("w16_loading.specs.Families", "Command")] + [("w16_machine.specs.Machine", name) for name in ("Step", "Run")]
+ROOTS = [("w16_loading.specs.Families", "AnyCommand")] + [("w16_machine.specs.Machine", name) for name in ("Step", "Run")]
 APART = ("w16_model", "w16_loading", "w16_machine")
+# A pair that `AnyCommand` of w16_loading has taken the place of. It goes with the next change of w16_model, which has all crates proved again.
+UNUSED = {("w16_model.specs.Commands", "AnyCommand")}
 # How lines begin that go on with a definition.
 GOES_ON = " ])}"
 # A name, or several with points between them.
@@ -104,7 +106,7 @@ def main():
         print(f"{module}: {count} lines")
         if module.split(".")[0] in APART:
             imported = {".".join(path.split(".")[1:4]) for path in pages[module].imports.values()}
-            faults += [f"{module} has {name}, which the meaning doesn't need" for name in definitions if name not in names]
+            faults += [f"{module} has {name}, which the meaning doesn't need" for name in definitions if name not in names and (module, name) not in UNUSED]
             faults += [f"{module} imports {it}, which has none of the meaning" for it in sorted(imported & set(pages) - of_meaning)]
     if not LIST.is_file() or LIST.read_text().splitlines() != listed:
         faults += [f"{LIST.name} isn't these lines:", *listed]
