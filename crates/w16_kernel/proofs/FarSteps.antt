@@ -14,7 +14,8 @@ use Rattle.w16_loading.specs.Replies as printed
 use Rattle.w16_loading.specs.Families.AnyCommand.{any}
 
 -- what a reply prints, of an access to handles in whatever world has them
-given : (old : LoadingWorld) (next : Handles) (command : Command OfFar) (reply : printed.Reply) → FarReplies old.handles command reply next → gives (access_of command old) reply (with_handles old next)
+given : (old : LoadingWorld) (next : Handles) (command : Command OfFar) (reply : printed.Reply) → FarReplies old.handles command reply next
+    → gives (access_of command old) reply (with_handles old next)
 given old next (Read pointer count) (Bytes bytes) s = (ap reply_of_far s.0, ap (with_handles old) s.1)
 given old next (Read pointer count) Done s = (ap reply_of_far s.0, ap (with_handles old) s.1)
 given old next (Read pointer count) (Fault fault) s = (ap reply_of_far s.0, ap (with_handles old) s.1)

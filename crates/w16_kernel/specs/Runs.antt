@@ -4,9 +4,10 @@ use Rattle.std.specs.Prelude.{◌≤◌, ℕ, Bool, true, false, List, length, I
 use Rattle.w16_model.specs.Commands.{Command}
 use Rattle.w16_loading.specs.Families.{AnyCommand}
 use Rattle.w16_model.specs.Commands.Family.{OfHandles, OfResizes, OfFar, OfModules, OfResources, OfLocals}
-use Rattle.w16_model.specs.Commands.Command.{GlobalAlloc, GlobalFree, GlobalLock, GlobalUnlock, GlobalSize, GlobalFlags, GlobalHandle, GetSelectorBase, GetSelectorLimit, GlobalCompact, GlobalLRUNewest, GlobalLRUOldest, Moved, Walk, GlobalReAlloc, GlobalDiscard}
-use Rattle.w16_model.specs.Commands.Command.{Read, Write, Fill, Builtin, LoadModule, LoadLibrary, FreeLibrary, FreeModule, GetModuleHandle, GetModuleUsage, GetProcAddress, FindResource, LoadResource, LockResource, FreeResource, SizeofResource}
-use Rattle.w16_model.specs.Commands.Command.{LocalInit, LocalAlloc, LocalReAlloc, LocalDiscard, LocalFree, LocalLock, LocalUnlock, LocalSize, LocalFlags, LocalHandle, LocalCompact, DS}
+use Rattle.w16_model.specs.Commands.Command.{GlobalAlloc, GlobalFree, GlobalLock, GlobalUnlock, GlobalSize, GlobalFlags, GlobalHandle, GetSelectorBase, GetSelectorLimit, GlobalCompact}
+use Rattle.w16_model.specs.Commands.Command.{GlobalLRUNewest, GlobalLRUOldest, Moved, Walk, GlobalReAlloc, GlobalDiscard, Read, Write, Fill, Builtin, LoadModule, LoadLibrary, FreeLibrary}
+use Rattle.w16_model.specs.Commands.Command.{FreeModule, GetModuleHandle, GetModuleUsage, GetProcAddress, FindResource, LoadResource, LockResource, FreeResource, SizeofResource, LocalInit}
+use Rattle.w16_model.specs.Commands.Command.{LocalAlloc, LocalReAlloc, LocalDiscard, LocalFree, LocalLock, LocalUnlock, LocalSize, LocalFlags, LocalHandle, LocalCompact, DS}
 use Rattle.w16_machine.specs.{World.World, Local.beginning}
 use Rattle.w16_machine.specs.declared.access.TheConstants.{MOST_READ, MOST_FILLED}
 use specs.{declared.call.Call.Call, declared.call.Label.Label, declared.call.Reply.Reply, declared.call.Answer.Answer, declared.far.Written.Written}

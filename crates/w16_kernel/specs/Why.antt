@@ -2,7 +2,8 @@
 use Rattle.std.specs.Prelude.{◌≡◌, ◌%◌, ◌<◌, ℕ, true, false, None, IsNone, IsSome, option_map, unwrap_or}
 use Rattle.w16_loading.specs.Families.{AnyCommand}
 use Rattle.w16_model.specs.Commands.Family.{OfHandles, OfLocals}
-use Rattle.w16_model.specs.Commands.Command.{GlobalSize, GlobalFlags, GlobalHandle, GetSelectorBase, GetSelectorLimit, GlobalReAlloc, GlobalDiscard, Read, Write, Fill, FreeLibrary, FreeModule, GetModuleUsage, GetProcAddress, FindResource, LoadResource, SizeofResource, LocalInit, DS}
+use Rattle.w16_model.specs.Commands.Command.{GlobalSize, GlobalFlags, GlobalHandle, GetSelectorBase, GetSelectorLimit, GlobalReAlloc, GlobalDiscard, Read, Write, Fill, FreeLibrary, FreeModule}
+use Rattle.w16_model.specs.Commands.Command.{GetModuleUsage, GetProcAddress, FindResource, LoadResource, SizeofResource, LocalInit, DS}
 use Rattle.w16_model.specs.{Calls.global_flags, Calls.global_handle, Calls.global_size, Calls.has_flag, Calls.selector_limit, CallLaws.handle_in, Outcomes.Call.Calls, Handles.selector_in}
 use Rattle.w16_model.specs.{Handles.slot_of_handle, Owned.owns, declared.TheConstants.GMEM_DISCARDABLE}
 use Rattle.w16_machine.specs.{Local.current_heap, Local.object_named, LocalCalls.asked_of, LocalCalls.local_flags, LocalCalls.local_size, LocalLaw.named_by, World.World}

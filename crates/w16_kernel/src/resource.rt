@@ -5,7 +5,6 @@ ghost use Rattle.w16_format.specs.Tables.{label_in};
 ghost use Rattle.w16_ne.specs.Resources.{label_of as ne_label};
 ghost use Rattle.w16_loader.specs.Registry.{in_world};
 ghost use Rattle.w16_loading.specs.Answers.{StepOver};
-ghost use Rattle.w16_model.specs.Commands.Family.{OfResources};
 ghost use Rattle.w16_model.specs.Commands.Command.{LoadResource, LockResource};
 ghost use Rattle.w16_loading.specs.Modules.{LoadingWorld};
 ghost use Rattle.w16_loading.specs.Resource as meaning;

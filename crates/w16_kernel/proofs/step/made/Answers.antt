@@ -22,7 +22,9 @@ returns-clause-made g c =
     }
 
 pub returns-clause-world : goal.returns-clause-world
-returns-clause-world g c = rw c.sweep.ensures (told_world _ _ (rw (← c.refresh.ensures) at c.requires.world) (command_of c.args.call.now) c.in_ok-reply.reply _ c.in_ok-reply.ensures.step c.in_ok-reply.ensures.ranged)
+returns-clause-world g c =
+    let is = rw (← c.refresh.ensures) at c.requires.world in
+    rw c.sweep.ensures (told_world _ _ is (command_of c.args.call.now) c.in_ok-reply.reply _ c.in_ok-reply.ensures.step c.in_ok-reply.ensures.ranged)
 
 pub returns-in_err-reply-clause-world : goal.returns-in_err-reply-clause-world
 returns-in_err-reply-clause-world g c =
