@@ -34,3 +34,4 @@ pub mod LocalStill
 pub mod LocalEffects
 pub mod LocalExamples
 pub mod LocalRefusals
+pub mod RowNames

@@ -1,5 +1,5 @@
 //! The laws of steps and runs of the whole machine. Each function does nothing: its contract is the law.
-ghost use Rattle.w16_laws.specs.Runs.{RunSparesLaw, FewestLaw, RunFilesLaw, RunWorldLaw};
+ghost use Rattle.w16_laws.specs.Runs.{RunSparesLaw, FewestLaw, RunFilesLaw, RunWorldLaw, RowNamesLaw};
 ghost use Rattle.w16_machine.specs.Bystanders.{StepSparesLaw};
 ghost use Rattle.w16_machine.specs.{Law.ApartLaw, Law.EmptyLaw, Law.FilesLaw, Law.WorldLaw, Rows.ReplyKindLaw};
 
@@ -26,6 +26,11 @@ pub fn runs_keep_worlds<S: Store>()
 /// Each step's reply is of the kind that the table of the commands has for its command, whatever the store answers.
 pub fn replies_are_of_their_kinds<S: Store>()
     ensures { ReplyKindLaw S.is_honest }
+{}
+
+/// The table of the commands has their names: what a row makes of arguments, whichever, has the row's name.
+pub fn rows_make_commands_of_their_names()
+    ensures { RowNamesLaw }
 {}
 
 /// In no world do two objects share a byte, neither two of the global heap nor two of a local one.
